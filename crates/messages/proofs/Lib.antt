@@ -1,0 +1,4 @@
+-- Lemmas on messages.
+pub mod OfTags
+pub mod Lists
+pub mod Fit

@@ -1,0 +1,6 @@
+-- An empty mask names none of the tags of sets.
+use Rattle.messages.proofs.OfTags.{none-named}
+use Rattle.messages.proofs.tags.VoteTags.basic.Needs as need
+
+pub returns : need.returns
+returns c = none-named

@@ -1,0 +1,4 @@
+-- The definitions that the contracts of messages cite.
+pub mod Tags
+pub mod Writing
+pub mod Reading
