@@ -36,7 +36,10 @@ impl Reason {
     pub fn at(self, place: usize) -> Refusal
         ensures { λ r. ⌜ r ≡ refusal self place ⌝ }
     {
-        Refusal { reason: self, place }
+        Refusal {
+            reason: self,
+            place,
+        }
     }
 
     // The number by which users know the reason; no two reasons share one.

@@ -7,9 +7,9 @@ ghost use lib.Dec.{leb};
 ghost use Rattle.basis.specs.Halls.{quorum, beyond-faults};
 ghost use Rattle.basis.specs.Counts.{has, count, Ones-counted, Quorums-meet, Honest-among, Honest-part, Rows-columns};
 ghost use Rattle.basis.specs.Bytes.{be};
+use crate::hall::SLOTS;
 use crate::hall::honest_size;
 use crate::hall::quorum_size;
-use crate::hall::SLOTS;
 
 // A set of replicas, wide enough for the largest hall.
 pub type ReplicaSet = u16;

@@ -160,9 +160,12 @@ module _ (y : Syntax) (xs : List ℕ) (octets : Octets xs) where
       let r = passed (round-in 0 xs) (cond (leb (getD xs 5 0) 1) (Ok (Bit (vote-of (getD xs 0 0)) (getD xs 3 0) (getD xs 4 0) (eqb (getD xs 5 0) 1))) (refused 11 5)) (record { number = 10; place = 4 }) p e in
       let v = passed (leb (getD xs 5 0) 1) (Ok (Bit (vote-of (getD xs 0 0)) (getD xs 3 0) (getD xs 4 0) (eqb (getD xs 5 0) 1))) (record { number = 11; place = 5 }) p (r .1) in
       let w = v .1 in
-      let q : Bit (vote-of (getD xs 0 0)) (getD xs 3 0) (getD xs 4 0) (eqb (getD xs 5 0) 1) ≡ p = cc in
-      ( Bit (vote-of (getD xs 0 0)) (getD xs 3 0) (getD xs 4 0) (eqb (getD xs 5 0) 1), (k, rounds 0 (r .0) .1)
-      , short-head l b ∙ ap₂ (λ u x. u ∷ 0 ∷ 3 ∷ getD xs 3 0 ∷ getD xs 4 0 ∷ x ∷ []) (vote-forth y (getD xs 0 0) t) (bit-forth (getD xs 5 0) (v .0)), sym q )
+      let q : Bit (vote-of (getD xs 0 0)) (getD xs 3 0) (getD xs 4 0) (eqb (getD xs 5 0) 1) ≡ p = cc in (
+        Bit (vote-of (getD xs 0 0)) (getD xs 3 0) (getD xs 4 0) (eqb (getD xs 5 0) 1),
+        (k, rounds 0 (r .0) .1),
+        short-head l b ∙ ap₂ (λ u x. u ∷ 0 ∷ 3 ∷ getD xs 3 0 ∷ getD xs 4 0 ∷ x ∷ []) (vote-forth y (getD xs 0 0) t) (bit-forth (getD xs 5 0) (v .0)),
+        sym q,
+      )
   by-shape shape.Set p t l b k e =
       let r = passed (round-in 1 xs) (set-reading xs (bits-of (getD xs 5 0))) (record { number = 10; place = 4 }) p e in
       let i = rounds 1 (r .0) in
@@ -180,9 +183,12 @@ module _ (y : Syntax) (xs : List ℕ) (octets : Octets xs) where
       let w = v .1 in
       let i = rounds 1 (r .0) in
       let u = share-forth y (getD xs 0 0) t in
-      let q : Share (getD xs 3 0) (getD xs 4 0) (getD xs 5 0) ≡ p = cc in
-      ( Share (getD xs 3 0) (getD xs 4 0) (getD xs 5 0), (k, i .0, i .1, leb-true _ _ (v .0), u .1)
-      , short-head l b ∙ ap (λ x. x ∷ 0 ∷ 3 ∷ getD xs 3 0 ∷ getD xs 4 0 ∷ getD xs 5 0 ∷ []) (u .0), sym q )
+      let q : Share (getD xs 3 0) (getD xs 4 0) (getD xs 5 0) ≡ p = cc in (
+        Share (getD xs 3 0) (getD xs 4 0) (getD xs 5 0),
+        (k, i .0, i .1, leb-true _ _ (v .0), u .1),
+        short-head l b ∙ ap (λ x. x ∷ 0 ∷ 3 ∷ getD xs 3 0 ∷ getD xs 4 0 ∷ getD xs 5 0 ∷ []) (u .0),
+        sym q,
+      )
 
   -- the head that was read: one whole message, a used tag, its right length
   head-facts : (s : Shape) → head-reading y xs ≡ Ok s → (length xs ≡ 3 + declared xs) × (shape-at (y .tags) (y .shares) (getD xs 0 0) ≡ Some s) × (declared xs ≡ body-length (y .size) s)

@@ -1,6 +1,7 @@
 -- Tags and the numbers of values. Assumes nothing.
 use mathlib.Core.Bool.{Bool, true, false, cond, _&&_, _||_}
-use Prim.Native.Nat.{ℕ, _-_}
+use Prim.Native.Nat.{ℕ, _-_, _^_}
+use lib.Bits.{bitOr}
 use lib.Dec.{eqb, leb}
 use Rattle.std.specs.declared.option.Option.{Option}
 use Rattle.std.specs.declared.option.Option.the-variants.{Some, None}
@@ -52,6 +53,13 @@ bits-of x = cond (eqb x 1) (Some Zero) (cond (eqb x 2) (Some One) (cond (eqb x 3
 -- the tags of a rule: 0x20 and 0x21, and the tags of sets that its mask names
 abbrev pub uses : VoteTags → ℕ → Bool
 uses v t = (eqb t 32 || eqb t 33) || (is-set-tag t && has (v .mask) (t - 32))
+
+-- the tags of the first and second vote alone, and one tag of sets more
+abbrev pub basic-tags : VoteTags
+basic-tags = record { mask = 0 }
+
+abbrev pub with-tag : VoteTags → ℕ → VoteTags
+with-tag v t = cond (is-set-tag t) (record { mask = bitOr (v .mask) (2 ^ (t - 32)) }) v
 
 -- the shape by the tag, for a rule's tags and a coin that uses shares or does not
 abbrev pub shape-at : (ℕ → Bool) → Bool → ℕ → Option Shape

@@ -26,10 +26,28 @@ pub enum BitSet {
 // A message with a sheet of type P. A slot is the place of one replica's sheet, and of the ballot on it.
 #[derive(Clone, Copy)]
 pub enum Message<P> {
-    Sheet { phase: Phase, slot: u8, sheet: P },
-    Bit { vote: Vote, slot: u8, round: u8, bit: bool },
-    Set { tag: u8, slot: u8, round: u8, bits: BitSet },
-    Share { slot: u8, round: u8, share: u8 },
+    Sheet {
+        phase: Phase,
+        slot: u8,
+        sheet: P,
+    },
+    Bit {
+        vote: Vote,
+        slot: u8,
+        round: u8,
+        bit: bool,
+    },
+    Set {
+        tag: u8,
+        slot: u8,
+        round: u8,
+        bits: BitSet,
+    },
+    Share {
+        slot: u8,
+        round: u8,
+        share: u8,
+    },
 }
 
 // A part of a packet, uncopied, with the place where it begins.

@@ -8,6 +8,7 @@ use basis::hall::SLOTS;
 
 // How many rounds a position counts for each slot, and how many values for each round.
 const ROUNDS: u32 = 16;
+
 const VALUES: u32 = 256;
 
 impl<P> Message<P> {

@@ -14,8 +14,8 @@ use crate::message::Part;
 use crate::message::Phase;
 use crate::message::Shape;
 use crate::message::Vote;
-use crate::tags::shape_of;
 use crate::tags::Format;
+use crate::tags::shape_of;
 use basis::refusal::Reason;
 use basis::refusal::Refusal;
 use sheets::sheet::Sheet;
@@ -76,7 +76,11 @@ fn read_sheet<'a, S: Sheet>(packet: &'a [u8], format: Format) -> Result<Message<
     if S::decode(bytes).is_none() {
         return Err(Reason::ValueNotLawful.at(4));
     }
-    Ok(Message::Sheet { phase: Phase::of(packet[0]), slot: packet[3], sheet: Part { at: 4, bytes } })
+    Ok(Message::Sheet {
+        phase: Phase::of(packet[0]),
+        slot: packet[3],
+        sheet: Part { at: 4, bytes },
+    })
 }
 
 fn read_bit<'a, S: Sheet>(packet: &'a [u8], format: Format) -> Result<Message<Part<'a>>, Refusal>
@@ -89,7 +93,12 @@ fn read_bit<'a, S: Sheet>(packet: &'a [u8], format: Format) -> Result<Message<Pa
     if packet[5] > 1 {
         return Err(Reason::ValueNotLawful.at(5));
     }
-    Ok(Message::Bit { vote: Vote::of(packet[0]), slot: packet[3], round: packet[4], bit: packet[5] == 1 })
+    Ok(Message::Bit {
+        vote: Vote::of(packet[0]),
+        slot: packet[3],
+        round: packet[4],
+        bit: packet[5] == 1,
+    })
 }
 
 fn read_set<'a, S: Sheet>(packet: &'a [u8], format: Format) -> Result<Message<Part<'a>>, Refusal>
@@ -102,7 +111,12 @@ fn read_set<'a, S: Sheet>(packet: &'a [u8], format: Format) -> Result<Message<Pa
     let Some(bits) = BitSet::of(packet[5]) else {
         return Err(Reason::ValueNotLawful.at(5));
     };
-    Ok(Message::Set { tag: packet[0], slot: packet[3], round: packet[4], bits })
+    Ok(Message::Set {
+        tag: packet[0],
+        slot: packet[3],
+        round: packet[4],
+        bits,
+    })
 }
 
 fn read_share<'a, S: Sheet>(packet: &'a [u8], format: Format) -> Result<Message<Part<'a>>, Refusal>
@@ -115,11 +129,19 @@ fn read_share<'a, S: Sheet>(packet: &'a [u8], format: Format) -> Result<Message<
     if packet[5] > LARGEST_SHARE {
         return Err(Reason::ValueNotLawful.at(5));
     }
-    Ok(Message::Share { slot: packet[3], round: packet[4], share: packet[5] })
+    Ok(Message::Share {
+        slot: packet[3],
+        round: packet[4],
+        share: packet[5],
+    })
 }
 
 // The slot, the round and the value of a packet whose length is right for its shape.
-fn read_body<'a, S: Sheet>(packet: &'a [u8], format: Format, shape: Shape) -> Result<Message<Part<'a>>, Refusal>
+fn read_body<'a, S: Sheet>(
+    packet: &'a [u8],
+    format: Format,
+    shape: Shape,
+) -> Result<Message<Part<'a>>, Refusal>
     requires { ⌜ length (now packet) ≡ 3 + body-length (S·Sheet .size) shape ⌝ }
     ensures { λ r. ⌜ plain r ≡ body-reading (syntax (S·Sheet .size) (S·Sheet .lawful) format) (now (packet .entry)) shape ⌝ }
 {

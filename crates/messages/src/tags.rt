@@ -3,7 +3,7 @@ ghost use mathlib.Core.Path.{_≡_};
 ghost use mathlib.Core.Bool.{_||_, _&&_};
 ghost use Prim.Native.Nat.{ℕ, _<_, _≤_, _+_};
 ghost use lib.Dec.{eqb};
-ghost use Rattle.messages.specs.Tags.{phase-tag, phase-of, vote-tag, vote-of, bits-number, bits-of, uses, is-set-tag, shape-at, share-tag};
+ghost use Rattle.messages.specs.Tags.{phase-tag, phase-of, vote-tag, vote-of, bits-number, bits-of, uses, is-set-tag, shape-at, basic-tags, with-tag};
 use crate::message::BitSet;
 use crate::message::Phase;
 use crate::message::Shape;
@@ -32,17 +32,21 @@ pub struct Format {
 impl VoteTags {
     // The tags of the first and second vote alone.
     pub fn basic() -> VoteTags
-        ensures { λ r. ⌜ ((t : ℕ) → uses r t ≡ eqb t 32 || eqb t 33) ⌝ }
+        ensures value { λ r. ⌜ r ≡ basic-tags ⌝ }
+        ensures names { λ r. ⌜ ((t : ℕ) → uses r t ≡ eqb t 32 || eqb t 33) ⌝ }
     {
         VoteTags { mask: 0 }
     }
 
     // These tags and one more from 0x22 to 0x2F; any other number adds nothing.
     pub fn and(self, tag: u8) -> VoteTags
-        ensures { λ r. ⌜ ((t : ℕ) → uses r t ≡ uses self t || (is-set-tag t && eqb t tag)) ⌝ }
+        ensures value { λ r. ⌜ r ≡ with-tag self tag ⌝ }
+        ensures names { λ r. ⌜ ((t : ℕ) → uses r t ≡ uses self t || (is-set-tag t && eqb t tag)) ⌝ }
     {
         match tag {
-            0x22..=0x2f => VoteTags { mask: with(self.mask, tag - 0x20) },
+            0x22..=0x2f => VoteTags {
+                mask: with(self.mask, tag - 0x20),
+            },
             _ => self,
         }
     }

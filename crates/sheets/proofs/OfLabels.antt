@@ -35,14 +35,14 @@ make p n f w l = record { fingerprint = p; size = n; four = f; wide = w; fits = 
 
 wide-prop : (p : List ℕ) (u v : Wide p) → u ≡ v
 wide-prop p u v =
-    ap₂ (λ x y. (x , (u .1) , (u .2) , y)) (le-prop (u .0) (v .0)) (le-prop (u .3) (v .3))
-    ∙ ap₂ (λ x y. ((v .0) , x , y , (v .3))) (le-prop (u .1) (v .1)) (le-prop (u .2) (v .2))
+    ap₂ (λ x y. (x, (u .1), (u .2), y)) (le-prop (u .0) (v .0)) (le-prop (u .3) (v .3))
+    ∙ ap₂ (λ x y. ((v .0), x, y, (v .3))) (le-prop (u .1) (v .1)) (le-prop (u .2) (v .2))
 
 at-fields : (p q : List ℕ) (m n : ℕ) → p ≡ q → m ≡ n → (f : Four p) (f′ : Four q) (w : Wide p) (w′ : Wide q) (l : m < 2 ^ 32) (l′ : n < 2 ^ 32) → make p m f w l ≡ make q n f′ w′ l′
 at-fields p q m n e d f f′ w w′ l l′ =
     subst (λ (z : List ℕ). (f′ : Four z) (w′ : Wide z) → make p m f w l ≡ make z n f′ w′ l′) e
     (λ f′ w′. subst (λ (k : ℕ). (l′ : k < 2 ^ 32) → make p m f w l ≡ make p k f′ w′ l′) d
-        (λ l′. ap₂ (λ x y. make p m (x , y) w l) (le-prop (f .0) (f′ .0)) (le-prop (f .1) (f′ .1)) ∙ ap₂ (λ x y. make p m f′ x y) (wide-prop p w w′) (le-prop l l′)) l′) f′ w′
+    (λ l′. ap₂ (λ x y. make p m (x, y) w l) (le-prop (f .0) (f′ .0)) (le-prop (f .1) (f′ .1)) ∙ ap₂ (λ x y. make p m f′ x y) (wide-prop p w w′) (le-prop l l′)) l′) f′ w′
 
 -- labels with the same fields are the same
 pub label-same : (x y : Label) → x .fingerprint ≡ y .fingerprint → x .size ≡ y .size → x ≡ y
@@ -73,12 +73,13 @@ by-numbers x y a =
 
 -- fingerprints and sizes are told apart by their bytes
 pub file-alone : (p q : List ℕ) (m n : ℕ) → Wide p → Wide q → m < 2 ^ 32 → n < 2 ^ 32 → file-bytes p m ≡ file-bytes q n → Agree p q m n
-file-alone p q m n u v f g e =
-    ( be-inj 8 _ _ (u .0) (v .0) (ap (take 8) e)
-    , be-inj 8 _ _ (u .1) (v .1) (ap (λ l. take 8 (drop 8 l)) e)
-    , be-inj 8 _ _ (u .2) (v .2) (ap (λ l. take 8 (drop 16 l)) e)
-    , be-inj 8 _ _ (u .3) (v .3) (ap (λ l. take 8 (drop 24 l)) e)
-    , be-inj 4 _ _ f g (ap (drop 32) e) )
+file-alone p q m n u v f g e = (
+  be-inj 8 _ _ (u .0) (v .0) (ap (take 8) e),
+  be-inj 8 _ _ (u .1) (v .1) (ap (λ l. take 8 (drop 8 l)) e),
+  be-inj 8 _ _ (u .2) (v .2) (ap (λ l. take 8 (drop 16 l)) e),
+  be-inj 8 _ _ (u .3) (v .3) (ap (λ l. take 8 (drop 24 l)) e),
+  be-inj 4 _ _ f g (ap (drop 32) e),
+)
 
 pub label-alone : (x y : Label) → label-bytes x ≡ label-bytes y → x ≡ y
 label-alone x y e = by-numbers x y (file-alone (x .fingerprint) (y .fingerprint) (x .size) (y .size) (x .wide) (y .wide) (x .fits) (y .fits) e)
@@ -119,9 +120,10 @@ made-of s h e =
     let l : length s ≡ 36 = eqb-true _ _ e in
     let four : length (drop 32 s) ≡ 4 = simp length-drop (omega arith) in
     let fits : value (drop 32 s) < 2 ^ 32 = subst (λ n. value (drop 32 s) < 256 ^ n) four (value-lt (drop 32 s) (octets-drop 32 s h)) in
-    let wide : (i : ℕ) → i + 8 ≤ 36 → part i s < 2 ^ 64 = λ i b. part-lt s h i (omega arith) in
-    ( make (label-row s .fingerprint) (value (drop 32 s)) (omega arith, omega arith) (wide 0 (omega arith), wide 8 (omega arith), wide 16 (omega arith), wide 24 (omega arith)) fits
-    , bytes-row s h l )
+    let wide : (i : ℕ) → i + 8 ≤ 36 → part i s < 2 ^ 64 = λ i b. part-lt s h i (omega arith) in (
+      make (label-row s .fingerprint) (value (drop 32 s)) (omega arith, omega arith) (wide 0 (omega arith), wide 8 (omega arith), wide 16 (omega arith), wide 24 (omega arith)) fits,
+      bytes-row s h l,
+    )
   where
     part-lt : (s : List ℕ) → Octets s → (i : ℕ) → i + 8 ≤ length s → part i s < 2 ^ 64
     part-lt s h i b =
@@ -146,7 +148,7 @@ row-of x =
     let at : (i : ℕ) → getD p i 0 < 2 ^ 64 → getD p i 0 ≡ value (be 8 (getD p i 0)) = λ i b. sym (value-be-lt 8 (getD p i 0) b) in
     ap₂ (λ u v. record { present = true; fingerprint = u; size = v })
     (listed p (x .four) ∙ ap₂ (λ u v. of-four u v (getD p 2 0) (getD p 3 0)) (at 0 (w .0)) (at 1 (w .1))
-        ∙ ap₂ (λ u v. of-four (value (be 8 (getD p 0 0))) (value (be 8 (getD p 1 0))) u v) (at 2 (w .2)) (at 3 (w .3)))
+    ∙ ap₂ (λ u v. of-four (value (be 8 (getD p 0 0))) (value (be 8 (getD p 1 0))) u v) (at 2 (w .2)) (at 3 (w .3)))
     (sym (value-be-lt 4 (x .size) (x .fits)))
 
 -- a row that is present holds a label exactly if it has the label's fields
@@ -155,7 +157,7 @@ is-held x r here a =
     let p = x .fingerprint in
     let q = r .fingerprint in
     let files : file-bytes q (r .size) ≡ label-bytes x =
-        simp (sym (a .0), sym (a .1), sym (a .2), sym (a .3), sym (a .4)) in
+    simp (sym (a .0), sym (a .1), sym (a .2), sym (a .3), sym (a .4)) in
     let e : label-held r ≡ Some (label-bytes x) = cond-true (r .present) _ _ here ∙ ap Some files in
     sym (ap (holds (label-bytes x)) e ∙ sameBytes-decides (label-bytes x) (label-bytes x) .1 refl)
 

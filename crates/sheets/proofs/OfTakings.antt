@@ -21,11 +21,13 @@ use Rattle.std.proofs.shelf.Signed.{toZ-ofZ, ofZ-toZ, ints}
 use Rattle.std.proofs.shelf.Tests.{cond-true, cond-false, and-parts, cond-both}
 use Rattle.std.specs.declared.option.Option.{Option}
 use Rattle.std.specs.declared.option.Option.the-variants.{Some, None}
+use Rattle.std.specs.declared.result.Result.the-variants.{Ok, Err}
 use Rattle.basis.specs.Bytes.{be, value, Octets}
+use Rattle.basis.specs.Refusals.{refused}
 use Rattle.basis.proofs.Digits.{value-lt, value-be-lt, be-value, be-inj, octets-be, length-be, octets-take, octets-drop, octets-append}
 use Rattle.sheets.specs.Holds.{holds, if-lawful}
 use Rattle.sheets.proofs.Tests.{no-true}
-use Rattle.sheets.specs.OfTakings.{in-range, amount-bytes, takings-bytes, takings-lawful, takings-held, takings-row}
+use Rattle.sheets.specs.OfTakings.{in-range, amount-bytes, takings-bytes, takings-lawful, takings-held, takings-row, takings-made, fields}
 use Rattle.sheets.specs.declared.kinds.Takings.{Takings}
 use Rattle.sheets.specs.declared.kinds.TakingsRow.{TakingsRow}
 
@@ -42,7 +44,7 @@ at-fields : (a b : ℤ) (c d : ℕ) → a ≡ b → c ≡ d → (l : Within a) (
 at-fields a b c d p q l m f g =
     subst (λ (z : ℤ). (m : Within z) → make a c l f ≡ make z d m g) p
     (λ m. subst (λ (n : ℕ). (g : n < 2 ^ 32) → make a c l f ≡ make a n m g) q
-        (λ g. ap₂ (λ x y. make a c x y) (ap₂ (λ x y. (x , y)) (leZ-prop _ _ (l .0) (m .0)) (leZ-prop _ _ (l .1) (m .1))) (le-prop f g)) g) m
+    (λ g. ap₂ (λ x y. make a c x y) (ap₂ (λ x y. (x, y)) (leZ-prop _ _ (l .0) (m .0)) (leZ-prop _ _ (l .1) (m .1))) (le-prop f g)) g) m
 
 -- takings with the same fields are the same
 pub takings-same : (x y : Takings) → x .cents ≡ y .cents → x .receipts ≡ y .receipts → x ≡ y
@@ -134,3 +136,18 @@ not-held x r f h = go (in-range (r .cents)) refl
         let e = sameBytes-decides (amount-bytes (r .cents) (r .receipts)) (takings-bytes x) .0 t in
         let q = amount-alone (r .cents) (x .cents) (r .receipts) (x .receipts) i (in-range-of x) f (x .fits) e in
         h (sym (q .0)) (sym (q .1))))
+
+-- the row made of the bytes of an amount in range has its numbers
+pub row-of : (z : ℤ) (n : ℕ) → in-range z ≡ true → n < 2 ^ 32 → record { cents = z; receipts = n } ≡ takings-row (amount-bytes z n)
+row-of z n i f =
+    ap₂ (λ u v. record { cents = u; receipts = v })
+    (sym (ap (toZ w64) (value-be-lt 8 _ (bits-lt z i)) ∙ toZ-ofZ w64 z (range-fits z i)))
+    (sym (value-be-lt 4 n f))
+
+-- takings that were made have the numbers that were asked
+pub made-facts : (z : ℤ) (n : ℕ) (x : Takings) → Ok (fields x) ≡ takings-made z n → (in-range z ≡ true) × (x .cents ≡ z) × (x .receipts ≡ n)
+made-facts z n x e = go (in-range z) refl e
+  where
+    go : (b : Bool) → in-range z ≡ b → Ok (fields x) ≡ cond b (Ok (record { cents = z; receipts = n })) (refused 1 0) → (in-range z ≡ true) × (x .cents ≡ z) × (x .receipts ≡ n)
+    go true i e = let q : fields x ≡ record { cents = z; receipts = n } = cc in (i, ap (λ r. r .cents) q, ap (λ r. r .receipts) q)
+    go false i e = absurd (let z : _≡_ {A = ℕ} 0 1 = cc in omega arith)

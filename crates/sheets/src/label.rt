@@ -9,14 +9,21 @@ pub impl Sheet for Label as LabelSheet {
     type Row = LabelRow;
 
     const LEN: usize = 36;
+
     const KIND: u8 = 2;
 
     ghost size = { 36 };
+
     ghost kind = { 2 };
+
     ghost bytes = { label-bytes };
+
     ghost lawful = { label-lawful };
+
     ghost held = { label-held };
+
     ghost row = { label-row };
+
     ghost vacant = { label-empty };
 
     fn byte_len() -> usize {
@@ -44,14 +51,23 @@ pub impl Sheet for Label as LabelSheet {
         if s.len() > 0 {
             return None;
         }
-        let fingerprint = [u64::from_be_bytes(*a), u64::from_be_bytes(*b), u64::from_be_bytes(*c), u64::from_be_bytes(*d)];
+        let fingerprint = [
+            u64::from_be_bytes(*a),
+            u64::from_be_bytes(*b),
+            u64::from_be_bytes(*c),
+            u64::from_be_bytes(*d),
+        ];
         let size = u32::from_be_bytes(*n);
         Some(Label { fingerprint, size })
     }
 
     fn to_row(&self) -> LabelRow {
         let fingerprint = self.fingerprint;
-        LabelRow { present: true, fingerprint, size: self.size }
+        LabelRow {
+            present: true,
+            fingerprint,
+            size: self.size,
+        }
     }
 
     fn from_row(place: LabelRow) -> Option<Label> {
@@ -59,11 +75,18 @@ pub impl Sheet for Label as LabelSheet {
             return None;
         }
         let fingerprint = place.fingerprint;
-        Some(Label { fingerprint, size: place.size })
+        Some(Label {
+            fingerprint,
+            size: place.size,
+        })
     }
 
     fn empty_row() -> LabelRow {
-        LabelRow { present: false, fingerprint: [0, 0, 0, 0], size: 0 }
+        LabelRow {
+            present: false,
+            fingerprint: [0, 0, 0, 0],
+            size: 0,
+        }
     }
 
     fn is_in(&self, place: &LabelRow) -> bool {

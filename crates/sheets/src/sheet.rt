@@ -16,6 +16,7 @@ pub trait Sheet: Copy {
 
     // the length in bytes, and the number of the kind in a closing record
     const LEN: usize;
+
     const KIND: u8;
 
     ghost size: { ℕ };

@@ -30,14 +30,21 @@ pub impl Sheet for Takings as TakingsSheet {
     type Row = TakingsRow;
 
     const LEN: usize = 12;
+
     const KIND: u8 = 1;
 
     ghost size = { 12 };
+
     ghost kind = { 1 };
+
     ghost bytes = { takings-bytes };
+
     ghost lawful = { takings-lawful };
+
     ghost held = { takings-held };
+
     ghost row = { takings-row };
+
     ghost vacant = { takings-empty };
 
     fn byte_len() -> usize {
@@ -59,22 +66,34 @@ pub impl Sheet for Takings as TakingsSheet {
         if rest.len() > 0 {
             return None;
         }
-        Self::from_row(TakingsRow { cents: i64::from_be_bytes(*cents), receipts: u32::from_be_bytes(*receipts) })
+        Self::from_row(TakingsRow {
+            cents: i64::from_be_bytes(*cents),
+            receipts: u32::from_be_bytes(*receipts),
+        })
     }
 
     fn to_row(&self) -> TakingsRow {
-        TakingsRow { cents: self.cents, receipts: self.receipts }
+        TakingsRow {
+            cents: self.cents,
+            receipts: self.receipts,
+        }
     }
 
     fn from_row(place: TakingsRow) -> Option<Takings> {
         if !in_range(place.cents) {
             return None;
         }
-        Some(Takings { cents: place.cents, receipts: place.receipts })
+        Some(Takings {
+            cents: place.cents,
+            receipts: place.receipts,
+        })
     }
 
     fn empty_row() -> TakingsRow {
-        TakingsRow { cents: i64::MIN, receipts: 0 }
+        TakingsRow {
+            cents: i64::MIN,
+            receipts: 0,
+        }
     }
 
     fn is_in(&self, place: &TakingsRow) -> bool {

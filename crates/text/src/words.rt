@@ -1,4 +1,4 @@
-// The words of a line of text, which single spaces part.
+// The words of a line and the lines of a text: pieces, which single separator bytes part.
 ghost use mathlib.Core.Path.{_≡_};
 ghost use mathlib.Core.List.{_∷_};
 ghost use Prim.Native.Nat.{_<_, _≤_};
@@ -6,41 +6,41 @@ ghost use lib.Dec.{eqb};
 ghost use lib.ListN.{length};
 ghost use Rattle.std.specs.Options.{mapped};
 ghost use Rattle.std.specs.Slices.{found};
-ghost use Rattle.text.specs.Lines.{first-word, after-word, word-end, words, words-after, three};
+ghost use Rattle.text.specs.Lines.{first-piece, after-piece, piece-end, pieces, pieces-after, words, three, lines, line-split, lines-from};
 
-// Whether a byte is the space between words.
-fn is_space(b: u8) -> bool
-    ensures { λ r. ⌜ r ≡ eqb b 32 ⌝ }
+// Whether a byte parts two pieces.
+fn parts(b: u8, separator: u8) -> bool
+    ensures { λ r. ⌜ r ≡ eqb b separator ⌝ }
 {
-    b == b' '
+    b == separator
 }
 
-// The index of the first space at or after `from`, or the text's length where there is none.
-pub fn word_end(text: &[u8], from: usize) -> usize
-    ensures value { λ r. ⌜ r ≡ word-end (now (text .entry)) from ⌝ }
+// The index of the first separator at or after `from`, or the text's length where there is none.
+pub fn piece_end(text: &[u8], from: usize, separator: u8) -> usize
+    ensures value { λ r. ⌜ r ≡ piece-end separator (now (text .entry)) from ⌝ }
     ensures within { λ r. ⌜ r ≤ length (now (text .entry)) ⌝ }
     ensures onward { λ r. ⌜ (from ≤ length (now (text .entry)) → from ≤ r) ⌝ }
 {
     let mut end = from.min(text.len());
-    while end < text.len() && !is_space(text[end]) {
+    while end < text.len() && !parts(text[end], separator) {
         end += 1;
     }
     end
 }
 
-// The first word of a text and what follows the space after it, if there is a space.
-pub fn split_word(text: &[u8]) -> (&[u8], Option<&[u8]>)
-    ensures word { λ r. ⌜ now (r .0) ≡ first-word (now (text .entry)) ⌝ }
-    ensures rest { λ r. ⌜ mapped now (r .1) ≡ after-word (now (text .entry)) ⌝ }
+// The first piece of a text and what follows the separator after it, if there is a separator.
+pub fn split_piece(text: &[u8], separator: u8) -> (&[u8], Option<&[u8]>)
+    ensures piece { λ r. ⌜ now (r .0) ≡ first-piece separator (now (text .entry)) ⌝ }
+    ensures rest { λ r. ⌜ mapped now (r .1) ≡ after-piece separator (now (text .entry)) ⌝ }
     ensures shorter { λ r. ⌜ found (r .1) (λ t. length (now t) < length (now (text .entry))) ⌝ }
-    ensures words { λ r. ⌜ words (now (text .entry)) ≡ now (r .0) ∷ words-after (mapped now (r .1)) ⌝ }
+    ensures pieces { λ r. ⌜ pieces separator (now (text .entry)) ≡ now (r .0) ∷ pieces-after separator (mapped now (r .1)) ⌝ }
 {
-    let end = word_end(text, 0);
-    let word = &text[0..end];
+    let end = piece_end(text, 0, separator);
+    let piece = &text[0..end];
     if end < text.len() {
-        (word, Some(&text[end + 1..]))
+        (piece, Some(&text[end + 1..]))
     } else {
-        (word, None)
+        (piece, None)
     }
 }
 
@@ -48,13 +48,26 @@ pub fn split_word(text: &[u8]) -> (&[u8], Option<&[u8]>)
 pub fn three_words(text: &[u8]) -> Option<(&[u8], &[u8], &[u8])>
     ensures { λ r. ⌜ mapped (λ t. (now (t .0), now (t .1), now (t .2))) r ≡ three (words (now (text .entry))) ⌝ }
 {
-    let (first, rest) = split_word(text);
-    let (second, rest) = split_word(rest?);
-    let (third, rest) = split_word(rest?);
+    let (first, rest) = split_piece(text, b' ');
+    let (second, rest) = split_piece(rest?, b' ');
+    let (third, rest) = split_piece(rest?, b' ');
     match rest {
         None => Some((first, second, third)),
         Some(_) => None,
     }
+}
+
+// The first line of a text and what follows its line feed, or nothing of an empty text.
+pub fn split_line(text: &[u8]) -> Option<(&[u8], &[u8])>
+    ensures value { λ r. ⌜ mapped (λ t. (now (t .0), now (t .1))) r ≡ line-split (now (text .entry)) ⌝ }
+    ensures shorter { λ r. ⌜ found r (λ t. length (now (t .1)) < length (now (text .entry))) ⌝ }
+    ensures lines { λ r. ⌜ lines (now (text .entry)) ≡ lines-from (mapped (λ t. (now (t .0), now (t .1))) r) ⌝ }
+{
+    if text.is_empty() {
+        return None;
+    }
+    let (line, rest) = split_piece(text, b'\n');
+    Some((line, rest.unwrap_or(&[])))
 }
 
 #[cfg(test)]
@@ -64,18 +77,19 @@ mod tests {
 
     #[test]
     fn ends() -> Result<(), Fail> {
-        check_eq(word_end(b"ab cd", 0), 2)?;
-        check_eq(word_end(b"ab cd", 2), 2)?;
-        check_eq(word_end(b"ab cd", 3), 5)?;
-        check_eq(word_end(b"ab cd", 9), 5)
+        check_eq(piece_end(b"ab cd", 0, b' '), 2)?;
+        check_eq(piece_end(b"ab cd", 2, b' '), 2)?;
+        check_eq(piece_end(b"ab cd", 3, b' '), 5)?;
+        check_eq(piece_end(b"ab cd", 9, b' '), 5)?;
+        check_eq(piece_end(b"ab cd", 0, b'd'), 4)
     }
 
     #[test]
     fn splits() -> Result<(), Fail> {
-        let (word, rest) = split_word(b"a  b");
-        check_eq(word, &b"a"[..])?;
-        check_eq(rest, Some(&b" b"[..]))?;
-        check_eq(split_word(b"").1, None)
+        let (piece, rest) = split_piece(b"a,,b", b',');
+        check_eq(piece, &b"a"[..])?;
+        check_eq(rest, Some(&b",b"[..]))?;
+        check_eq(split_piece(b"", b',').1, None)
     }
 
     #[test]
@@ -87,5 +101,14 @@ mod tests {
         check_eq(three_words(b"a  b"), Some((&b"a"[..], &b""[..], &b"b"[..])))?;
         check(three_words(b"a b").is_none())?;
         check(three_words(b"a b c ").is_none())
+    }
+
+    #[test]
+    fn lines() -> Result<(), Fail> {
+        check_eq(split_line(b""), None)?;
+        check_eq(split_line(b"a\n"), Some((&b"a"[..], &b""[..])))?;
+        check_eq(split_line(b"a\nb"), Some((&b"a"[..], &b"b"[..])))?;
+        check_eq(split_line(b"b"), Some((&b"b"[..], &b""[..])))?;
+        check_eq(split_line(b"\n\n"), Some((&b""[..], &b"\n"[..])))
     }
 }

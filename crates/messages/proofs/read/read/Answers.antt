@@ -13,7 +13,7 @@ returns-in-Break-shape g c =
     let p = err-from-errBy (c .from-residual .result) (c .from-residual .ensures .1) in
     record {
       answer = ap plain (p .1 ∙ ap Err (p .2)) ∙ head-refused y (c .args .packet .now) (c .in-Break-shape .field-0 .0) (c .in-Break-shape .ensures tt .answer);
-      exact = exact y (g .S·Sheet·met .sized) (g .S·Sheet·met .short)
+      exact = exact y (g .S·Sheet·met .sized) (g .S·Sheet·met .short);
     }
 
 pub returns : need.returns
@@ -22,5 +22,5 @@ returns g c =
     let y = syntax (m .size) (m .lawful) (c .args .format) in
     record {
       answer = head-passed y (c .args .packet .now) (c .in-Continue-shape .shape) (plain (c .read-body .result)) (c .in-Continue-shape .ensures tt .answer) (c .read-body .ensures);
-      exact = exact y (g .S·Sheet·met .sized) (g .S·Sheet·met .short)
+      exact = exact y (g .S·Sheet·met .sized) (g .S·Sheet·met .short);
     }

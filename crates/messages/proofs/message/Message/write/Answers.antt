@@ -22,5 +22,5 @@ returns-in-Sheet g c =
           (c .slot .ensures ∙ ap slot-of is)
           (c .if-out-len .left)
           (let e = c .encode .ensures in simp (sym full) at e)
-          ∙ ap (λ w. write-output (written (on-sheet (m .bytes) w)) (c .args .out .now)) (sym is)
+          ∙ ap (λ w. write-output (written (on-sheet (m .bytes) w)) (c .args .out .now)) (sym is);
     }

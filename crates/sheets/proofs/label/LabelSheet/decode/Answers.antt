@@ -28,9 +28,9 @@ returns c =
     let we : c .in-Continue-n .n .now ≡ _ = n .0 ∙ take-all 4 _ (omega (arith, n .2)) in
     let four : length (c .in-Continue-n .n .now) ≡ 4 = ap length we ∙ omega (arith, n .2) in
     let bytes = read-five s _ _ _ _ _ _ _ _ _ _ _ _ _ _ (λ i. omega (arith, c .typed .s i)) l (a .0, a .1) (b .0, b .1) (d .0, d .1) (e .0, e .1) we
-        (c .from-be-bytes .ensures ∙ sym (value8 _ (eight _ _ (a .0) (omega (arith, a .2)))))
-        (c .from-be-bytes-2 .ensures ∙ sym (value8 _ (eight _ _ (b .0) (omega (arith, b .2)))))
-        (c .from-be-bytes-3 .ensures ∙ sym (value8 _ (eight _ _ (d .0) (omega (arith, d .2)))))
-        (c .from-be-bytes-4 .ensures ∙ sym (value8 _ (eight _ _ (e .0) (omega (arith, e .2)))))
-        (c .from-be-bytes-size .ensures ∙ sym (value4 _ four)) in
+    (c .from-be-bytes .ensures ∙ sym (value8 _ (eight _ _ (a .0) (omega (arith, a .2)))))
+    (c .from-be-bytes-2 .ensures ∙ sym (value8 _ (eight _ _ (b .0) (omega (arith, b .2)))))
+    (c .from-be-bytes-3 .ensures ∙ sym (value8 _ (eight _ _ (d .0) (omega (arith, d .2)))))
+    (c .from-be-bytes-4 .ensures ∙ sym (value8 _ (eight _ _ (e .0) (omega (arith, e .2)))))
+    (c .from-be-bytes-size .ensures ∙ sym (value4 _ four)) in
     ap Some bytes ∙ sym (cond-true (eqb (length s) 36) (Some s) None (eq-eqb _ _ l))

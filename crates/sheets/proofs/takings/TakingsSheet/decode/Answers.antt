@@ -25,6 +25,6 @@ returns c =
     let ln : length (c .in-Continue-receipts .receipts .now) ≡ 4 = ap length e ∙ simp length-drop (omega arith) in
     c .from-row .ensures
     ∙ ap₂ (λ u v. takings-held (record { cents = u; receipts = v }))
-        (toZ-ofZ w64 _ f ∙ c .from-be-bytes .ensures ∙ ap (toZ w64) (sym (value8 _ la) ∙ ap value (a .0)))
-        (c .from-be-bytes-2 .ensures ∙ sym (value4 _ ln) ∙ ap value e)
+    (toZ-ofZ w64 _ f ∙ c .from-be-bytes .ensures ∙ ap (toZ w64) (sym (value8 _ la) ∙ ap value (a .0)))
+    (c .from-be-bytes-2 .ensures ∙ sym (value4 _ ln) ∙ ap value e)
     ∙ held-row s (λ i. omega (arith, c .typed .s i)) l

@@ -19,7 +19,7 @@ returns c =
     let g : Fits w32 (r .receipts) = search needs in
     test-is _ _
     (λ t. let p = and-parts _ _ t in
-        is-held x r
-        (sym (toZ-ofZ w64 (x .cents) (range-fits (x .cents) (in-range-of x))) ∙ ap (toZ w64) (eqb-true _ _ (p .0)) ∙ toZ-ofZ w64 (r .cents) f)
-        (eqb-true _ _ (p .1)))
+    is-held x r
+    (sym (toZ-ofZ w64 (x .cents) (range-fits (x .cents) (in-range-of x))) ∙ ap (toZ w64) (eqb-true _ _ (p .0)) ∙ toZ-ofZ w64 (r .cents) f)
+    (eqb-true _ _ (p .1)))
     (λ ne. not-held x r (omega arith) (λ p q. ne (and-from _ _ (eq-eqb _ _ (ap (ofZ w64) p)) (eq-eqb _ _ q))))

@@ -1,0 +1,2 @@
+-- Lemmas on entries that are sent and received.
+pub mod Trips
