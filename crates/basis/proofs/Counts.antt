@@ -155,3 +155,12 @@ has-high k m j h le = ap (λ (x : ℕ). eqb (x % 2) 1) (div-eq-of-lt (lt-of-lt-o
 -- k numbers that pass p contain k honest ones less the faulty ones
 pub honest-part : (k n : ℕ) (p honest : ℕ → Bool) → k ≤ count n p → k ≤ count n (λ j. p j && honest j) + count n (λ j. not (honest j))
 honest-part k n p honest many = omega (arith, count-both n p honest, count-le n (λ j. p j || honest j), count-not n honest)
+
+-- one number more, that passes or does not
+pub count-yes : (n : ℕ) (p : ℕ → Bool) → p n ≡ true → count (n + 1) p ≡ count n p + 1
+unfolding count
+count-yes n p h = rw (add-one n) (let e : _≡_ {A = ℕ} (cond (p n) 1 0) 1 = ap (λ (b : Bool). cond {A = ℕ} b 1 0) h in omega arith)
+
+pub count-no : (n : ℕ) (p : ℕ → Bool) → p n ≡ false → count (n + 1) p ≡ count n p
+unfolding count
+count-no n p h = rw (add-one n) (let e : _≡_ {A = ℕ} (cond (p n) 1 0) 0 = ap (λ (b : Bool). cond {A = ℕ} b 1 0) h in omega arith)

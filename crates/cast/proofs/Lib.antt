@@ -1,0 +1,2 @@
+-- Lemmas on what a till answers.
+pub mod Hearing

@@ -1,0 +1,7 @@
+-- Two texts are the same by their bytes.
+use borrow.Author.Needs.{needs}
+use Rattle.std.proofs.shelf.Equals.{matches-decides, sameBytes-decides}
+use Rattle.cast.proofs.script.is_word.Needs as need
+
+pub returns : need.returns
+returns c = let d = matches-decides _ _ _ (c .eq .ensures) in search (needs, sameBytes-decides)

@@ -1,0 +1,3 @@
+-- The definitions that the program's contracts cite.
+pub mod Commands
+pub mod States
