@@ -1,4 +1,6 @@
 // Ballots: each settles by rounds whether one slot's sheet goes in.
+#![tactic(auto)]
+
 pub mod ballot;
 pub mod going;
 pub mod reacting;

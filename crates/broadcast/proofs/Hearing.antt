@@ -14,8 +14,8 @@ use Rattle.messages.proofs.Lists.{passed}
 use Rattle.slots.specs.Places.{Rows, recorded}
 use Rattle.slots.specs.Steps.{Slots}
 use Rattle.broadcast.specs.Calls.{Holding, sizes_ok, may_send, compared, taking, hear_answer, Said}
-use Rattle.basis.specs.declared.heard.Heard.{Heard}
-use Rattle.basis.specs.declared.heard.Heard.TheVariants.{New, Known}
+use Rattle.broadcast.specs.declared.hear.Heard.{Heard}
+use Rattle.broadcast.specs.declared.hear.Heard.TheVariants.{New, Known}
 use Rattle.broadcast.specs.Claims.{RowLaws}
 use Rattle.broadcast.proofs.Tables.{other_not, same_bytes, bytes_same}
 

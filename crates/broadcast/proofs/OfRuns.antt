@@ -4,7 +4,6 @@ use Rattle.std.proofs.lemmas.Bool.{cases_eq, eqb-true, eq-eqb, ne_eqb, cond-true
 use Rattle.std.proofs.lemmas.Bool.Decides.{nat_tests}
 use Rattle.basis.specs.Counts.{count}
 use Rattle.basis.specs.Halls.{listed, faults}
-use Rattle.basis.proofs.Thirds.{thirds}
 use Rattle.messages.specs.declared.message.Message.TheVariants.{Sheet}
 use Rattle.messages.specs.declared.message.Phase.{Phase}
 use Rattle.messages.specs.declared.message.Phase.TheVariants.{Send}
@@ -130,6 +129,9 @@ module _ {R : Type 0} (rows : Rows R) (y : Syntax) (laws : RowLaws rows y.size y
       reached = λ rest i k gi gk. let b = (wh.well k gk).began (rest.running k gk) in (b.0, b.1, sent_delivered rows n honest e few (tables s) kp (quiet wh rest) i k b.0 gi gk b.1);
       shared = λ rest. delivery_shared rows n honest e few (tables s) kp (quiet wh rest);
     }
+
+thirds : (n : ℕ) → T (listed n) → n ≡ 3 * faults n + 1
+thirds n h = grind (arith, nat_tests)
 
 pub broadcast_holds : {R : Type 0} (rows : Rows R) (size : ℕ) (lawful : List ℕ → Bool) → RowLaws rows size lawful → BroadcastHolds rows size lawful
 broadcast_holds rows size lawful laws n tags shares honest s l few run =

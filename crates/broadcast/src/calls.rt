@@ -8,8 +8,8 @@ ghost use Rattle.slots.specs.Steps.{noted, settled};
 ghost use Rattle.broadcast.specs.Calls.{fits_hall, may_send, compared, sheet_answer, if_new, Running, hear_answer, hear_after, of_hall, large_enough, look_after};
 ghost use Rattle.messages.specs.Reading.{syntax};
 
-use basis::heard::Heard;
-use basis::member::Member;
+use crate::hear::Heard;
+use crate::member::Member;
 use basis::refusal::{Reason, Refusal};
 use messages::message::{Message, Phase};
 use messages::read::read;

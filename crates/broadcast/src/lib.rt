@@ -1,5 +1,9 @@
 // The sheet broadcast: the states of a replica, what its calls do with sheets, and what holds in every run.
+#![tactic(auto)]
+
 pub mod calls;
+pub mod hear;
+pub mod member;
 pub mod open;
 pub mod say;
 pub mod states;

@@ -8,7 +8,7 @@ ghost use Rattle.broadcast.specs.Calls.{Running};
 ghost use Rattle.broadcast.specs.Saying.{said_message_lem, at_or_after, earliest, next_said, say_answer, say_output};
 
 use crate::calls::{are_large_enough, may_come};
-use basis::member::Member;
+use crate::member::Member;
 use basis::refusal::{Reason, Refusal};
 use messages::message::{Message, Phase};
 use sheets::sheet::Sheet;

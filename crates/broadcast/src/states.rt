@@ -10,10 +10,10 @@ ghost use Rattle.slots.specs.Steps.{delivered_sheet_lem};
 ghost use Rattle.broadcast.specs.Opening.{fresh_told, open_answer, open_after, offer_told, offer_answer};
 
 use crate::calls::{are_large_enough, hear, look};
+use crate::hear::Heard;
+use crate::member::Member;
 use crate::open::clear_to;
 use crate::say::say;
-use basis::heard::Heard;
-use basis::member::Member;
 use basis::refusal::{Reason, Refusal};
 use messages::message::Phase;
 use messages::tags::VoteTags;

@@ -1,5 +1,5 @@
 // What a replica of four answers to packets, one after the other.
-use basis::heard::Heard;
+use broadcast::hear::Heard;
 use broadcast::states::{Fresh, Running};
 use messages::tags::VoteTags;
 use sheets::kinds::{Takings, TakingsRow};

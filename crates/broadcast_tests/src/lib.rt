@@ -1,4 +1,6 @@
 // Tests of the sheet broadcast at one replica: each refusal with its place, what is said, and when a slot is delivered.
+#![tactic(auto)]
+
 #[cfg(test)]
 mod hearing;
 #[cfg(test)]

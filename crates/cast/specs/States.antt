@@ -9,7 +9,7 @@ use Rattle.slots.specs.Places.{Rows}
 use Rattle.slots.specs.Steps.{Slots, delivered_sheet_lem}
 use Rattle.broadcast.specs.Calls.{of_hall, offer_after, hear_answer}
 use Rattle.broadcast.specs.Saying.{say_answer, say_output}
-use Rattle.basis.specs.declared.heard.Heard.{Heard}
+use Rattle.broadcast.specs.declared.hear.Heard.{Heard}
 use Rattle.broadcast.specs.Calls as calls
 use Rattle.cast.specs.declared.till.Fault.{Fault}
 use Rattle.cast.specs.declared.till.Fault.TheVariants as fault

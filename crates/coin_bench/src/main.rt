@@ -1,4 +1,6 @@
 // What the share coin shows with as many wrong shares as it bears, in the worst place; with `time`, how long a toss takes.
+#![tactic(auto)]
+
 mod report;
 mod scene;
 mod timing;

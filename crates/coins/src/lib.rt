@@ -1,4 +1,6 @@
 // Coins: what every coin does and keeps, the dealt coin and the share coin.
+#![tactic(auto)]
+
 pub mod coin;
 pub mod dealt;
 pub mod share;

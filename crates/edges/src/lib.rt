@@ -1,3 +1,5 @@
 // The edges of the specification, in a hall of four, proved together over the public calls.
+#![tactic(auto)]
+
 pub mod messages_edges;
 pub mod sheets_edges;

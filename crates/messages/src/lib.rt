@@ -1,4 +1,6 @@
 // Messages between replicas: their kinds, reading them from packets, writing them, and their positions.
+#![tactic(auto)]
+
 pub mod message;
 pub mod position;
 pub mod read;

@@ -1,4 +1,6 @@
 // The two supplied round rules: two phases and three phases of votes.
+#![tactic(auto)]
+
 pub mod counting;
 pub mod hearing;
 pub mod recording;

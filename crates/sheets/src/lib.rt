@@ -1,4 +1,6 @@
 // Kinds of sheets: what a kind is, takings and labels, and what is written once for every kind.
+#![tactic(auto)]
+
 pub mod kinds;
 pub mod label;
 pub mod rows;

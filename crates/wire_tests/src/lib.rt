@@ -1,4 +1,6 @@
 // Tests of sheets and messages: worked bytes, and each refusal with its place, as tables.
+#![tactic(auto)]
+
 #[cfg(test)]
 mod readings;
 #[cfg(test)]

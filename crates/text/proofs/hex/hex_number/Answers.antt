@@ -15,28 +15,28 @@ at_most n i h l = let p : i ≤ 3 = omega arith in omega (arith, pow-le-pow_righ
 longer : (n i d : ℕ) → n < 16 ^ i → d < 16 → n * 16 + d < 16 ^ (i + 1)
 longer n i d h l = rw (add-one, pow-succ') (omega arith)
 
-pub overflow-mul-number : goal.overflow-mul-number
-overflow-mul-number c = omega (arith, at_most c.loop-b.number c.loop-b.b-index c.loop-b.invariant.0 (omega arith))
+pub overflow_mul-number : goal.overflow_mul-number
+overflow_mul-number c = omega (arith, at_most c.loop-b.number c.loop-b.b-index c.loop-b.invariant.0 (omega arith))
 
-pub overflow-add-number : goal.overflow-add-number
-overflow-add-number c =
-    omega (arith, at_most c.loop-b.number c.loop-b.b-index c.loop-b.invariant.0 (omega arith), small (get_or c.args.text.now c.loop-b.b-index 0) c.in-ok-from-hex-digit.field-0 c.in-ok-from-hex-digit.ensures)
+pub overflow_add-number : goal.overflow_add-number
+overflow_add-number c =
+    omega (arith, at_most c.loop-b.number c.loop-b.b-index c.loop-b.invariant.0 (omega arith), small (get_or c.args.text.now c.loop-b.b-index 0) c.in_ok-from_hex_digit.field-0 c.in_ok-from_hex_digit.ensures)
 
 pub loop-b-preserved : goal.loop-b-preserved
 loop-b-preserved c =
-    let digit = c.in-ok-from-hex-digit.field-0 in
-    let reads = read_some 16 hex_value_of c.loop-b.number c.args.text.now c.loop-b.b-index digit c.loop-b-test.true c.in-ok-from-hex-digit.ensures in
+    let digit = c.in_ok-from_hex_digit.field-0 in
+    let reads = read_some 16 hex_value_of c.loop-b.number c.args.text.now c.loop-b.b-index digit c.loop-b-test.true c.in_ok-from_hex_digit.ensures in
     let e : c.from.result ≡ digit = c.from.ensures in (
-      longer c.loop-b.number c.loop-b.b-index c.from.result c.loop-b.invariant.0 (omega (arith, small (get_or c.args.text.now c.loop-b.b-index 0) c.in-ok-from-hex-digit.field-0 c.in-ok-from-hex-digit.ensures)),
+      longer c.loop-b.number c.loop-b.b-index c.from.result c.loop-b.invariant.0 (omega (arith, small (get_or c.args.text.now c.loop-b.b-index 0) c.in_ok-from_hex_digit.field-0 c.in_ok-from_hex_digit.ensures)),
       ap (λ d. read_after 16 hex_value_of (c.loop-b.number * 16 + d) (drop (c.loop-b.b-index + 1) c.args.text.now)) e
           ∙ sym reads
           ∙ c.loop-b.invariant.1,
     )
 
-pub returns-in-err-from-hex-digit : goal.returns-in-err-from-hex-digit
-returns-in-err-from-hex-digit c =
-    let stops = read_none 16 hex_value_of c.loop-b.number c.args.text.now c.loop-b.b-index c.loop-b-test.true c.in-err-from-hex-digit.ensures in
-    c.from-residual.ensures ∙ sym stops ∙ c.loop-b.invariant.1
+pub returns-in_err-from_hex_digit : goal.returns-in_err-from_hex_digit
+returns-in_err-from_hex_digit c =
+    let stops = read_none 16 hex_value_of c.loop-b.number c.args.text.now c.loop-b.b-index c.loop-b-test.true c.in_err-from_hex_digit.ensures in
+    c.from_residual.ensures ∙ sym stops ∙ c.loop-b.invariant.1
 
 pub returns : goal.returns
 returns c = sym (read_all 16 hex_value_of c.loop-b.number c.args.text.now c.loop-b.b-index c.loop-b-test.false) ∙ c.loop-b.invariant.1

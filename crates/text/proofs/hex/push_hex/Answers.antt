@@ -42,20 +42,20 @@ module _ (old s : List ℕ) (i : ℕ) (inside : i < length s) (was : List ℕ) (
 
 pub loop-b-preserved : goal.loop-b-preserved
 loop-b-preserved c =
-    both (string_bytes c.args.out.now) c.args.bytes.now c.loop-b.b-index c.loop-b-test.true (string_bytes c.loop-b.out) c.loop-b.invariant (string_bytes c.push-digit.new.out) c.in-ok-push-digit.ensures (string_bytes c.push-digit-in-loop-b.new.out) c.in-ok-push-digit-2.ensures
+    both (string_bytes c.args.out.now) c.args.bytes.now c.loop-b.b-index c.loop-b-test.true (string_bytes c.loop-b.out) c.loop-b.invariant (string_bytes c.push_digit.new.out) c.in_ok-push_digit.ensures (string_bytes c.push_digit-in-loop-b.new.out) c.in_ok-push_digit-2.ensures
 
-pub returns-in-err-push-digit : goal.returns-in-err-push-digit
-returns-in-err-push-digit c =
+pub returns-in_err-push_digit : goal.returns-in_err-push_digit
+returns-in_err-push_digit c =
     record {
-      ok = IfOk-from_err c.from-residual.result _ c.from-residual.ensures.0;
-      front = none_more (string_bytes c.args.out.now) c.args.bytes.now c.loop-b.b-index c.loop-b-test.true (string_bytes c.loop-b.out) c.loop-b.invariant (string_bytes c.push-digit.new.out) c.in-err-push-digit.ensures;
+      ok = IfOk-from_err c.from_residual.result _ c.from_residual.ensures.0;
+      front = none_more (string_bytes c.args.out.now) c.args.bytes.now c.loop-b.b-index c.loop-b-test.true (string_bytes c.loop-b.out) c.loop-b.invariant (string_bytes c.push_digit.new.out) c.in_err-push_digit.ensures;
     }
 
-pub returns-in-err-push-digit-2 : goal.returns-in-err-push-digit-2
-returns-in-err-push-digit-2 c =
+pub returns-in_err-push_digit-2 : goal.returns-in_err-push_digit-2
+returns-in_err-push_digit-2 c =
     record {
-      ok = IfOk-from_err c.from-residual-in-err-push-digit-2.result _ c.from-residual-in-err-push-digit-2.ensures.0;
-      front = only_high (string_bytes c.args.out.now) c.args.bytes.now c.loop-b.b-index c.loop-b-test.true (string_bytes c.loop-b.out) c.loop-b.invariant (string_bytes c.push-digit.new.out) c.in-ok-push-digit.ensures (string_bytes c.push-digit-in-loop-b.new.out) c.in-err-push-digit-2.ensures;
+      ok = IfOk-from_err c.from_residual-in_err-push_digit-2.result _ c.from_residual-in_err-push_digit-2.ensures.0;
+      front = only_high (string_bytes c.args.out.now) c.args.bytes.now c.loop-b.b-index c.loop-b-test.true (string_bytes c.loop-b.out) c.loop-b.invariant (string_bytes c.push_digit.new.out) c.in_ok-push_digit.ensures (string_bytes c.push_digit-in-loop-b.new.out) c.in_err-push_digit-2.ensures;
     }
 
 pub returns : goal.returns

@@ -5,12 +5,12 @@ use Rattle.text.proofs.Numerals.{read_after, held, read_none, read_some, read_al
 use Rattle.text.proofs.number.decimal.Goals as goal
 
 pub loop-b-init : goal.loop-b-init
-loop-b-init c = (omega arith, ap (held (2 ^ 64 - 1)) (read_first 10 digit_of c.args.text.now (sym c.if-is-empty.ensures)))
+loop-b-init c = (omega arith, ap (held (2 ^ 64 - 1)) (read_first 10 digit_of c.args.text.now (sym c.if-is_empty.ensures)))
 
 pub loop-b-preserved : goal.loop-b-preserved
 loop-b-preserved c =
     let rest = drop (c.loop-b.b-index + 1) c.args.text.now in
-    let reads = read_some 10 digit_of c.loop-b.number c.args.text.now c.loop-b.b-index c.in-ok-digit.field-0 c.loop-b-test.true c.in-ok-digit.ensures in (
+    let reads = read_some 10 digit_of c.loop-b.number c.args.text.now c.loop-b.b-index c.in_ok-digit.field-0 c.loop-b-test.true c.in_ok-digit.ensures in (
       omega arith,
       ap (λ n. held (2 ^ 64 - 1) (read_after 10 digit_of n rest)) c.followed-number.ensures
           ∙ held_limited 10 digit_of (2 ^ 64 - 1) (omega arith) _ rest
@@ -18,10 +18,10 @@ loop-b-preserved c =
           ∙ c.loop-b.invariant.1,
     )
 
-pub returns-in-err-digit : goal.returns-in-err-digit
-returns-in-err-digit c =
-    let stops = read_none 10 digit_of c.loop-b.number c.args.text.now c.loop-b.b-index c.loop-b-test.true c.in-err-digit.ensures in
-    c.from-residual.ensures ∙ sym (ap (held (2 ^ 64 - 1)) stops) ∙ c.loop-b.invariant.1
+pub returns-in_err-digit : goal.returns-in_err-digit
+returns-in_err-digit c =
+    let stops = read_none 10 digit_of c.loop-b.number c.args.text.now c.loop-b.b-index c.loop-b-test.true c.in_err-digit.ensures in
+    c.from_residual.ensures ∙ sym (ap (held (2 ^ 64 - 1)) stops) ∙ c.loop-b.invariant.1
 
 pub returns : goal.returns
 returns c =

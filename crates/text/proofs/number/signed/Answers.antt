@@ -27,14 +27,14 @@ after_minus (b ∷ s) h =
 pub returns-in-err-decimal : goal.returns-in-err-decimal
 returns-in-err-decimal c =
     let minus : get_or c.args.text.now 0 0 ≡ 45 = search rules in
-    c.from-residual.ensures
+    c.from_residual.ensures
     ∙ ap (option_map (λ n. saturate_to_bits 63 (neg_ℤ (pos n)))) c.in-err-decimal.ensures
     ∙ after_minus c.args.text.now minus
 
 pub returns-in-ok-decimal : goal.returns-in-ok-decimal
 returns-in-ok-decimal c =
     let minus : get_or c.args.text.now 0 0 ≡ 45 = search rules in
-    let fits : SFits w64 c.nearest-negated.result = search rules in
-    ap Some (to_z-of_z w64 c.nearest-negated.result fits ∙ c.nearest-negated.ensures)
+    let fits : SFits w64 c.nearest_negated.result = search rules in
+    ap Some (to_z-of_z w64 c.nearest_negated.result fits ∙ c.nearest_negated.ensures)
     ∙ ap (option_map (λ n. saturate_to_bits 63 (neg_ℤ (pos n)))) c.in-ok-decimal.ensures
     ∙ after_minus c.args.text.now minus

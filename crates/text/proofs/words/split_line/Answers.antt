@@ -39,18 +39,18 @@ rest_shorter : (n : ℕ) (o : Option (Bor (List ℕ))) → 0 < n → IfSome o (�
 rest_shorter n None h l = h
 rest_shorter n (Some t) h l = l
 
-pub returns-then-is-empty : goal.returns-then-is-empty
-returns-then-is-empty c =
-    let value = no_line c.args.text.now (eqb-true _ _ (sym c.if-is-empty.ensures)) in
+pub returns-then-is_empty : goal.returns-then-is_empty
+returns-then-is_empty c =
+    let value = no_line c.args.text.now (eqb-true _ _ (sym c.if-is_empty.ensures)) in
     record { value = value; shorter = tt; lines = lines_split c.args.text.now ∙ ap lines_from (sym value) }
 
 pub returns : goal.returns
 returns c =
-    let some : 0 < length c.args.text.now = omega (arith, eqb-false _ _ (sym c.if-is-empty.ensures)) in
-    let rest = ap (λ x. x.now) c.unwrap-or.ensures ∙ rest_is c.split-piece.result.1 _ refl in
-    let value = first_line c.args.text.now c.split-piece.result.0.now c.unwrap-or.result.now some c.split-piece.ensures.piece (rest ∙ ap (λ o. unwrap_or o []) c.split-piece.ensures.rest) in
+    let some : 0 < length c.args.text.now = omega (arith, eqb-false _ _ (sym c.if-is_empty.ensures)) in
+    let rest = ap (λ x. x.now) c.unwrap_or.ensures ∙ rest_is c.split_piece.result.1 _ refl in
+    let value = first_line c.args.text.now c.split_piece.result.0.now c.unwrap_or.result.now some c.split_piece.ensures.piece (rest ∙ ap (λ o. unwrap_or o []) c.split_piece.ensures.rest) in
     record {
       value = value;
-      shorter = omega (arith, ap length rest, rest_shorter (length c.args.text.now) c.split-piece.result.1 some c.split-piece.ensures.shorter);
+      shorter = omega (arith, ap length rest, rest_shorter (length c.args.text.now) c.split_piece.result.1 some c.split_piece.ensures.shorter);
       lines = lines_split c.args.text.now ∙ ap lines_from (sym value);
     }

@@ -10,6 +10,6 @@ pub returns : goal.returns
 returns c =
     let x = c.args.self.now in
     let back = to_z-of_z w64 x.cents (range_fits x.cents (in_range_of x)) in
-    put_both c.args.out.now c.copy-from-slice.new.self c.copy-from-slice-2.new.self (of_z w64 x.cents) x.receipts
-    (c.copy-from-slice.ensures.after ∙ c.to-be-bytes.ensures ∙ be8 _ ∙ ap (λ z. be 8 (of_z w64 z)) back)
-    (c.copy-from-slice-2.ensures.after ∙ c.to-be-bytes-2.ensures ∙ be4 _)
+    put_both c.args.out.now c.copy_from_slice.new.self c.copy_from_slice-2.new.self (of_z w64 x.cents) x.receipts
+    (c.copy_from_slice.ensures.after ∙ c.to_be_bytes.ensures ∙ be8 _ ∙ ap (λ z. be 8 (of_z w64 z)) back)
+    (c.copy_from_slice-2.ensures.after ∙ c.to_be_bytes-2.ensures ∙ be4 _)
