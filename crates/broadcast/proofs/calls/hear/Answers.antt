@@ -12,6 +12,6 @@ take-sheet-requires g c =
     let large = and_parts _ _ (sym c.if-not-are-large-enough.ensures) in
     let more = and_parts _ _ large.1 in
     let other = and_parts _ _ (sym c.if-not-is-another.ensures) in
-    let f = sheet_read y c.read.ensures.exact c.args.packet.now (λ i. omega (arith, c.type-inv.packet i)) c.in-Sheet.phase c.in-Sheet.slot (part_placed c.in-Sheet.sheet)
+    let f = sheet_read y c.read.ensures.exact c.args.packet.now (λ i. omega (arith, c.type_inv.packet i)) c.in-Sheet.phase c.in-Sheet.slot (part_placed c.in-Sheet.sheet)
     (sym c.in-ok-phase.ensures.answer ∙ ap (λ x. plain (Ok x)) c.in-Sheet.is) in
     (f.0, (ltb-true _ _ other.0, (leb-true _ _ large.0, (leb-true _ _ more.1, f.1))))

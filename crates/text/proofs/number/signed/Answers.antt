@@ -24,17 +24,17 @@ after_minus (b ∷ s) h =
     let is : eqb b 45 ≡ true = eq-eqb b 45 h in
     rw is (ap (λ t. option_map (λ n. saturate_to_bits 63 (neg_ℤ (pos n))) (decimal_of t)) (take_rest (b ∷ s) 1) ∙ sym (negated_held (number_of 10 digit_of s)))
 
-pub returns-in-err-decimal : goal.returns-in-err-decimal
-returns-in-err-decimal c =
+pub returns-in_err-decimal-in-45 : goal.returns-in_err-decimal-in-45
+returns-in_err-decimal-in-45 c =
     let minus : get_or c.args.text.now 0 0 ≡ 45 = search rules in
     c.from_residual.ensures
-    ∙ ap (option_map (λ n. saturate_to_bits 63 (neg_ℤ (pos n)))) c.in-err-decimal.ensures
+    ∙ ap (option_map (λ n. saturate_to_bits 63 (neg_ℤ (pos n)))) c.in_err-decimal-in-45.ensures
     ∙ after_minus c.args.text.now minus
 
-pub returns-in-ok-decimal : goal.returns-in-ok-decimal
-returns-in-ok-decimal c =
+pub returns-in_ok-decimal-in-45 : goal.returns-in_ok-decimal-in-45
+returns-in_ok-decimal-in-45 c =
     let minus : get_or c.args.text.now 0 0 ≡ 45 = search rules in
     let fits : SFits w64 c.nearest_negated.result = search rules in
     ap Some (to_z-of_z w64 c.nearest_negated.result fits ∙ c.nearest_negated.ensures)
-    ∙ ap (option_map (λ n. saturate_to_bits 63 (neg_ℤ (pos n)))) c.in-ok-decimal.ensures
+    ∙ ap (option_map (λ n. saturate_to_bits 63 (neg_ℤ (pos n)))) c.in_ok-decimal-in-45.ensures
     ∙ after_minus c.args.text.now minus

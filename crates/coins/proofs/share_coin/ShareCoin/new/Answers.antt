@@ -4,4 +4,4 @@ use Rattle.coins.specs.Keeping.{made_of}
 use Rattle.coins.proofs.share_coin.ShareCoin.new.Goals as goal
 
 pub returns : goal.returns
-returns c = record { answer = search rules; coin = made_of _ c.args.shares.now c.new-tosses-tosses.ensures.all c.new-tosses-tosses.ensures.each }
+returns c = record { answer = search rules; coin = made_of _ c.args.shares.now c.new_tosses-tosses.ensures.all c.new_tosses-tosses.ensures.each }

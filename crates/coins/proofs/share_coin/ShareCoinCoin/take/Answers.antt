@@ -10,6 +10,6 @@ returns c =
     let coin = c.args.self.now in
     let share = c.args.share in
     record {
-      answer = c.take.ensures.answer ∙ ap (λ (i : ℕ). answer_by (taken_from (get_or coin.tosses i blank) share.sender) share.value) c.toss-place-place.ensures.value;
-      left = put_back coin share c.toss-place-place.result c.take.new.self c.toss-place-place.ensures.value c.take.ensures.left;
+      answer = c.take.ensures.answer ∙ ap (λ (i : ℕ). answer_by (taken_from (get_or coin.tosses i blank) share.sender) share.value) c.toss_place-place.ensures.value;
+      left = put_back coin share c.toss_place-place.result c.take.new.self c.toss_place-place.ensures.value c.take.ensures.left;
     }

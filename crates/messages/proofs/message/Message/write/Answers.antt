@@ -12,8 +12,8 @@ returns-in-Sheet g c =
     let full : length bs ≡ m.size = g.met.S.Sheet.sized bs (g.met.S.Sheet.accepted c.in-Sheet.sheet) in
     record {
       answer = search rules;
-      output = sheet_written c.args.out.now c.encode.new.out bs c.in-Sheet.phase c.in-Sheet.slot c.written-len-len.result c.tag.result c.slot.result
-          (c.written-len-len.ensures ∙ ap (λ w. length (written (on_sheet m.bytes w))) is)
+      output = sheet_written c.args.out.now c.encode.new.out bs c.in-Sheet.phase c.in-Sheet.slot c.written_len-len.result c.tag.result c.slot.result
+          (c.written_len-len.ensures ∙ ap (λ w. length (written (on_sheet m.bytes w))) is)
           (c.tag.ensures ∙ ap tag_of is)
           (c.slot.ensures ∙ ap slot_of is)
           c.if-out-len.false

@@ -18,7 +18,7 @@ returns c =
     let eight : (x y : List ℕ) → x ≡ take 8 y → 8 ≤ length y → length x ≡ 8 = λ x y q h. ap length q ∙ simp length-take (omega arith) in
     let we : c.in_ok-n.n.now ≡ _ = n.0 ∙ take_all 4 _ (omega (arith, n.2)) in
     let four : length c.in_ok-n.n.now ≡ 4 = ap length we ∙ omega (arith, n.2) in
-    let bytes = read_five s _ _ _ _ _ _ _ _ _ _ _ _ _ _ (λ i. omega (arith, c.type-inv.s i)) l (a.0, a.1) (b.0, b.1) (d.0, d.1) (e.0, e.1) we
+    let bytes = read_five s _ _ _ _ _ _ _ _ _ _ _ _ _ _ (λ i. omega (arith, c.type_inv.s i)) l (a.0, a.1) (b.0, b.1) (d.0, d.1) (e.0, e.1) we
     (c.from_be_bytes.ensures ∙ sym (value8 _ (eight _ _ a.0 (omega (arith, a.2)))))
     (c.from_be_bytes-2.ensures ∙ sym (value8 _ (eight _ _ b.0 (omega (arith, b.2)))))
     (c.from_be_bytes-3.ensures ∙ sym (value8 _ (eight _ _ d.0 (omega (arith, d.2)))))

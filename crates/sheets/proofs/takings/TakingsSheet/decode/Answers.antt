@@ -21,4 +21,4 @@ returns c =
     ∙ ap₂ (λ u v. takings_held (record { cents = u; receipts = v }))
     (to_z-of_z w64 _ f ∙ c.from_be_bytes.ensures ∙ ap (to_z w64) (sym (value8 _ la) ∙ ap value a.0))
     (c.from_be_bytes-2.ensures ∙ sym (value4 _ ln) ∙ ap value e)
-    ∙ held_row s (λ i. omega (arith, c.type-inv.s i)) l
+    ∙ held_row s (λ i. omega (arith, c.type_inv.s i)) l

@@ -6,4 +6,4 @@ use Rattle.sheets.proofs.takings.TakingsSheet.from_row.Goals as goal
 pub invariant_of-result : goal.invariant_of-result
 invariant_of-result c =
     let k : Fits w32 c.args.place.receipts = search rules in
-    (within _ (sym c.if-not-in_range.ensures), (omega arith, tt))
+    record { lawful = within _ (sym c.if-not-in_range.ensures); fits = omega arith }
