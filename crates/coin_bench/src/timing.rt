@@ -43,7 +43,7 @@ fn toss_times(rt: &HostRuntime, coin: &mut ShareCoin, n: u8, toss: u8) -> io::Re
 
 // The one in the middle.
 fn median(mut times: [u32; TOSSES]) -> u32 {
-    times.sort();
+    times.sort_unstable();
     times[TOSSES / 2]
 }
 

@@ -25,8 +25,8 @@ returns g c =
     let rows : Rows _ = record { held = m.held; row = m.row; vacant = m.vacant } in
     let n = c.args.member.n in
     let t : Slots _ = record { records = c.args.records.now; places = c.args.places.now } in
-    let all : c.loop-slot.slot ≡ n = omega (arith, c.loop-slot-test.false, c.loop-slot.auto.slot_end) in
-    let large = sym c.if-not-are-large-enough.ensures in
+    let all : c.loop-slot.slot ≡ n = omega (arith, c.loop-slot-test.false, c.loop-slot.auto.slot-end) in
+    let large = sym c.if-not-are_large_enough.ensures in
     record {
       answer = sym (cond-true _ _ _ large);
       left = c.loop-slot.invariant ∙ ap (λ i. looked rows (of_hall n m.size m.lawful) c.args.member.own i t) all ∙ sym (ap (λ (h : Holding _). h.slots) (cond-true _ _ _ large));

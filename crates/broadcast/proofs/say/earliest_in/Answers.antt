@@ -19,4 +19,4 @@ pub loop-slot-preserved : goal.loop-slot-preserved
 loop-slot-preserved g c =
     let m = g.S.Sheet in
     let rows : Rows _ = record { held = m.held; row = m.row; vacant = m.vacant } in
-    none_more rows c.args.member.n c.args.member.own c.args.places.now c.args.phase c.args.from c.loop-slot.slot c.loop-slot.invariant c.in-default.ensures
+    none_more rows c.args.member.n c.args.member.own c.args.places.now c.args.phase c.args.from c.loop-slot.slot c.loop-slot.invariant c.in_default.ensures

@@ -8,7 +8,7 @@ pub loop-k-init : goal.loop-k-init
 loop-k-init c = ap (λ (x : ℕ). x % 251) (sym (pow-zero (c.args.z + 7)))
 
 pub loop-k-preserved : goal.loop-k-preserved
-loop-k-preserved c = ap (λ (x : ℕ). c.loop-k.v * (x + 7) % 251) c.from.ensures ∙ power (c.args.z + 7) c.loop-k.-k c.loop-k.v c.loop-k.invariant
+loop-k-preserved c = ap (λ (x : ℕ). c.loop-k.v * (x + 7) % 251) c.from.ensures ∙ power (c.args.z + 7) c.loop-k._k c.loop-k.v c.loop-k.invariant
 
 pub returns : goal.returns
-returns c = let e : c.loop-k.-k ≡ c.args.f = omega arith in c.loop-k.invariant ∙ ap (λ (x : ℕ). (c.args.z + 7) ^ x % 251) e
+returns c = let e : c.loop-k._k ≡ c.args.f = omega arith in c.loop-k.invariant ∙ ap (λ (x : ℕ). (c.args.z + 7) ^ x % 251) e

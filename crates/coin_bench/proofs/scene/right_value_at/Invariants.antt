@@ -3,4 +3,4 @@ use Rattle.std.proofs.Common.{◌≡◌, ◌+◌, ◌%◌, ◌^◌}
 use Rattle.coin_bench.proofs.scene.right_value_at.Given as goal
 
 abbrev pub invariant-loop-k : goal.invariant-loop-k
-invariant-loop-k l = l.v ≡ (l.z + 7) ^ l.-k % 251
+invariant-loop-k l = l.v ≡ (l.z + 7) ^ l._k % 251

@@ -16,6 +16,6 @@ loop-sender-init c =
 pub loop-sender-preserved : goal.loop-sender-preserved
 loop-sender-preserved c =
     c.take.ensures.left
-    ∙ ap (λ (v : ℕ). take_after share_acts c.loop-sender.coin (record { ballot = c.args.ballot; round = c.args.round; sender = c.loop-sender.sender; value = v })) c.value-of-value.ensures
+    ∙ ap (λ (v : ℕ). take_after share_acts c.loop-sender.coin (record { ballot = c.args.ballot; round = c.args.round; sender = c.loop-sender.sender; value = v })) c.value_of-value.ensures
     ∙ ap (λ (x : ShareCoin). take_after share_acts x (dealt_share c.args.n c.args.ballot c.args.round c.loop-sender.sender)) c.loop-sender.invariant
     ∙ sym (one_taken c.args.n c.args.ballot c.args.round c.args.from c.loop-sender.sender c.args.coin.now (omega arith))

@@ -4,4 +4,4 @@ use Rattle.openings.proofs.admitting.admits_zero.Goals as goal
 
 pub returns : goal.returns
 unfolding admits
-returns c = c.is-quorum.ensures.value
+returns c = c.is_quorum_in.ensures.value

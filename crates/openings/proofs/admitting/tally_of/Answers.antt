@@ -11,16 +11,16 @@ use Rattle.openings.proofs.admitting.tally_of.Goals as goal
 same : (n x : ℕ) (p : ℕ → Bool) (b : Bool) → ((j : ℕ) → has x j ≡ p j) → b ≡ leb (quorum n) (count n (has x)) → leb (quorum n) (count n p) ≡ b
 same n x p b e h = ap (λ (y : ℕ). leb (quorum n) y) (sym (count_cong n (has x) p e)) ∙ sym h
 
-pub returns-then-is-quorum : goal.returns-then-is-quorum
+pub returns-then-is_quorum_in : goal.returns-then-is_quorum_in
 unfolding tally
-returns-then-is-quorum c = sym (cond-true _ _ _ (same _ _ _ true c.supporters-counted.ensures.zero c.if-is-quorum.ensures.value))
+returns-then-is_quorum_in c = sym (cond-true _ _ _ (same _ _ _ true c.supporters-counted.ensures.zero c.if-is_quorum_in.ensures.value))
 
-pub returns-then-is-quorum-2 : goal.returns-then-is-quorum-2
+pub returns-then-is_quorum_in-2 : goal.returns-then-is_quorum_in-2
 unfolding tally
-returns-then-is-quorum-2 c = sym (cond-false _ _ _ (same _ _ _ false c.supporters-counted.ensures.zero c.if-is-quorum.ensures.value)
-    ∙ cond-true _ _ _ (same _ _ _ true c.supporters-counted.ensures.one c.if-is-quorum-2.ensures.value))
+returns-then-is_quorum_in-2 c = sym (cond-false _ _ _ (same _ _ _ false c.supporters-counted.ensures.zero c.if-is_quorum_in.ensures.value)
+    ∙ cond-true _ _ _ (same _ _ _ true c.supporters-counted.ensures.one c.if-is_quorum_in-2.ensures.value))
 
-pub returns-else-is-quorum-2 : goal.returns-else-is-quorum-2
+pub returns-else-is_quorum_in-2 : goal.returns-else-is_quorum_in-2
 unfolding tally
-returns-else-is-quorum-2 c = sym (cond-false _ _ _ (same _ _ _ false c.supporters-counted.ensures.zero c.if-is-quorum.ensures.value)
-    ∙ cond-false _ _ _ (same _ _ _ false c.supporters-counted.ensures.one c.if-is-quorum-2.ensures.value))
+returns-else-is_quorum_in-2 c = sym (cond-false _ _ _ (same _ _ _ false c.supporters-counted.ensures.zero c.if-is_quorum_in.ensures.value)
+    ∙ cond-false _ _ _ (same _ _ _ false c.supporters-counted.ensures.one c.if-is_quorum_in-2.ensures.value))

@@ -13,5 +13,5 @@ returns c =
     let n = c.args.member.n in
     let own = c.args.member.own in
     let m = meaning_of c.args.round.now in
-    let done : meaning_of c.take-verdict.new.self ≡ passed (three_steps n own) m = c.take-verdict.ensures ∙ ap (taking (conclude n own 34)) (c.vote-third.ensures ∙ ap (taking (third n own)) (c.vote-second.ensures ∙ ap (taking (second n own)) (c.join-first-2.ensures ∙ ap (taking (join n own 2)) c.join-first.ensures))) in
+    let done : meaning_of c.take_verdict.new.self ≡ passed (three_steps n own) m = c.take_verdict.ensures ∙ ap (taking (conclude n own 34)) (c.vote_third.ensures ∙ ap (taking (third n own)) (c.vote_second.ensures ∙ ap (taking (second n own)) (c.join_first-2.ensures ∙ ap (taking (join n own 2)) c.join_first.ensures))) in
     record { left = done ∙ sym (three_pass n own m); none = subst (Idle (three_steps n own)) (sym done) (passed_idle (three_steps n own) m (three_once n own)); ends = three_ends }

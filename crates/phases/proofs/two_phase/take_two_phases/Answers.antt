@@ -13,5 +13,5 @@ returns c =
     let n = c.args.member.n in
     let own = c.args.member.own in
     let m = meaning_of c.args.round.now in
-    let done : meaning_of c.take-verdict.new.self ≡ passed (two_steps n own) m = c.take-verdict.ensures ∙ ap (taking (conclude n own 33)) (c.vote-second.ensures ∙ ap (taking (second n own)) (c.join-first-2.ensures ∙ ap (taking (join n own 2)) c.join-first.ensures)) in
+    let done : meaning_of c.take_verdict.new.self ≡ passed (two_steps n own) m = c.take_verdict.ensures ∙ ap (taking (conclude n own 33)) (c.vote_second.ensures ∙ ap (taking (second n own)) (c.join_first-2.ensures ∙ ap (taking (join n own 2)) c.join_first.ensures)) in
     record { left = done ∙ sym (two_pass n own m); none = subst (Idle (two_steps n own)) (sym done) (passed_idle (two_steps n own) m (two_once n own)); ends = two_ends }

@@ -7,6 +7,6 @@ use Rattle.sends.proofs.trip.entry_at.Goals as goal
 
 pub returns : goal.returns
 returns c =
-    let x = c.in-ok-takings.takings in
+    let x = c.in_ok-takings.takings in
     ap (λ (z : ℤ). Some (record { till = c.args.slot; cents = z; receipts = x.receipts })) (to_z-of_z w64 x.cents (range_fits x.cents (in_range_of x)))
-    ∙ carries c.args.slot c.args.bytes.now x c.in-ok-takings.ensures
+    ∙ carries c.args.slot c.args.bytes.now x c.in_ok-takings.ensures

@@ -14,7 +14,7 @@ returns c =
     let e = c.args.entry in
     let out = c.args.out.now in
     let f : SFits w64 e.cents = search rules in
-    let m = made_facts _ _ c.in-ok-sheet.sheet c.in-ok-sheet.ensures in
+    let m = made_facts _ _ c.in_ok-sheet.sheet c.in_ok-sheet.ensures in
     let z = m.1 ∙ to_z-of_z w64 e.cents f in
     let i : in_range_lem e.cents ≡ true = ap in_range_lem (sym (to_z-of_z w64 e.cents f)) ∙ m.0 in
     record {

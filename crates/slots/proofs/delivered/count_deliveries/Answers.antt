@@ -4,7 +4,7 @@ use Rattle.basis.specs.Counts.{count}
 use Rattle.basis.proofs.Counts.{count_yes, count_no}
 use Rattle.slots.specs.Steps.{cleared}
 use Rattle.slots.proofs.delivered.count_deliveries.Goals as goal
-use Rattle.slots.proofs.delivered.count_deliveries.Goals.{then-is-delivered, else-is-delivered}
+use Rattle.slots.proofs.delivered.count_deliveries.Goals.{then-is_delivered, else-is_delivered}
 
 pub loop-slot-init : goal.loop-slot-init
 unfolding count
@@ -14,7 +14,7 @@ pub loop-slot-preserved : goal.loop-slot-preserved
 loop-slot-preserved c =
     let i = c.loop-slot.slot in
     let p : ℕ → Bool = λ k. is_some (get_or c.args.records.now k cleared).delivered in
-    elim c.if-is-delivered.branch [
-      | then-is-delivered w ↦ (omega (arith, w.many-is), w.many-is ∙ ap (λ x. x + 1) c.loop-slot.invariant.1 ∙ sym (count_yes i p (sym w.if-is-delivered.ensures)))
-      | else-is-delivered w ↦ (omega (arith, w.many-is), w.many-is ∙ c.loop-slot.invariant.1 ∙ sym (count_no i p (sym w.if-is-delivered.ensures)))
+    elim c.if-is_delivered.branch [
+      | then-is_delivered w ↦ (omega (arith, w.many-is), w.many-is ∙ ap (λ x. x + 1) c.loop-slot.invariant.1 ∙ sym (count_yes i p (sym w.if-is_delivered.ensures)))
+      | else-is_delivered w ↦ (omega (arith, w.many-is), w.many-is ∙ c.loop-slot.invariant.1 ∙ sym (count_no i p (sym w.if-is_delivered.ensures)))
     ]

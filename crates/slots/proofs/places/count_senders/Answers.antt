@@ -5,7 +5,7 @@ use Rattle.basis.proofs.Counts.{count_yes, count_no}
 use Rattle.sheets.specs.Holds.{holds}
 use Rattle.slots.specs.Places.{recorded}
 use Rattle.slots.proofs.places.count_senders.Goals as goal
-use Rattle.slots.proofs.places.count_senders.Goals.{then-has-sheet, else-has-sheet}
+use Rattle.slots.proofs.places.count_senders.Goals.{then-has_sheet, else-has_sheet}
 
 pub loop-sender-init : goal.loop-sender-init
 unfolding count
@@ -16,7 +16,7 @@ loop-sender-preserved g c =
     let m = g.S.Sheet in
     let i = c.loop-sender.sender in
     let p : ℕ → Bool = λ j. holds (m.bytes c.args.sheet.now) (recorded (record { held = m.held; row = m.row; vacant = m.vacant }) c.args.n c.args.places.now c.args.phase c.args.slot j) in
-    elim c.if-has-sheet.branch [
-      | then-has-sheet w ↦ (omega (arith, w.many-is), w.many-is ∙ ap (λ x. x + 1) c.loop-sender.invariant.1 ∙ sym (count_yes i p (sym w.if-has-sheet.ensures)))
-      | else-has-sheet w ↦ (omega (arith, w.many-is), w.many-is ∙ c.loop-sender.invariant.1 ∙ sym (count_no i p (sym w.if-has-sheet.ensures)))
+    elim c.if-has_sheet.branch [
+      | then-has_sheet w ↦ (omega (arith, w.many-is), w.many-is ∙ ap (λ x. x + 1) c.loop-sender.invariant.1 ∙ sym (count_yes i p (sym w.if-has_sheet.ensures)))
+      | else-has_sheet w ↦ (omega (arith, w.many-is), w.many-is ∙ c.loop-sender.invariant.1 ∙ sym (count_no i p (sym w.if-has_sheet.ensures)))
     ]

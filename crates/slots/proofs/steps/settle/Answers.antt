@@ -10,12 +10,12 @@ loop-turn-preserved g c =
     let m = g.S.Sheet in
     let i = c.loop-turn.turn in
     let less : 3 - i ≡ suc (3 - (i + 1)) = omega (arith, c.loop-turn-test.true) in
-    c.loop-turn.invariant ∙ taken (record { held = m.held; row = m.row; vacant = m.vacant }) c.args.n c.args.own c.args.slot _ _ (3 - i) (3 - (i + 1)) less c.take-step.ensures.left
+    c.loop-turn.invariant ∙ taken (record { held = m.held; row = m.row; vacant = m.vacant }) c.args.n c.args.own c.args.slot _ _ (3 - i) (3 - (i + 1)) less c.take_step.ensures.left
 
-pub returns-then-not-take-step : goal.returns-then-not-take-step
-returns-then-not-take-step g c =
+pub returns-then-not-take_step : goal.returns-then-not-take_step
+returns-then-not-take_step g c =
     let m = g.S.Sheet in
-    stopped (record { held = m.held; row = m.row; vacant = m.vacant }) c.args.n c.args.own c.args.slot _ _ (3 - c.loop-turn.turn) c.if-not-take-step.ensures.done c.take-step.ensures.left ∙ sym c.loop-turn.invariant
+    stopped (record { held = m.held; row = m.row; vacant = m.vacant }) c.args.n c.args.own c.args.slot _ _ (3 - c.loop-turn.turn) c.if-not-take_step.ensures.done c.take_step.ensures.left ∙ sym c.loop-turn.invariant
 
 pub returns : goal.returns
 returns g c =

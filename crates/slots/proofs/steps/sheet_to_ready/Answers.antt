@@ -15,6 +15,6 @@ returns-in-Some g c =
     let k = c.args.slot in
     let j = c.in-Some.sender in
     let rest = sheet_of rows n ps Ready k (leader rows n ps Ready k (beyond_faults n) n) in
-    let b : backed rows n ps Echo k (quorum n) j ≡ true = subst (λ (q : ℕ). backed rows n ps Echo k q j ≡ true) c.quorum-size.ensures c.in-Some.ensures.within.1 in
-    let l : Some j ≡ leader rows n ps Echo k (quorum n) n = c.in-Some.ensures.value ∙ ap (λ (q : ℕ). leader rows n ps Echo k q n) c.quorum-size.ensures in
-    c.sheet-from.ensures ∙ backed_first rows n ps Echo k (quorum n) j rest b ∙ ap (λ x. or_else (sheet_of rows n ps Echo k x) rest) l
+    let b : backed rows n ps Echo k (quorum n) j ≡ true = subst (λ (q : ℕ). backed rows n ps Echo k q j ≡ true) c.quorum_size.ensures c.in-Some.ensures.within.1 in
+    let l : Some j ≡ leader rows n ps Echo k (quorum n) n = c.in-Some.ensures.value ∙ ap (λ (q : ℕ). leader rows n ps Echo k q n) c.quorum_size.ensures in
+    c.sheet_from.ensures ∙ backed_first rows n ps Echo k (quorum n) j rest b ∙ ap (λ x. or_else (sheet_of rows n ps Echo k x) rest) l

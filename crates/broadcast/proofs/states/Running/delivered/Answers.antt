@@ -11,4 +11,4 @@ returns g c =
     let met = g.met.S.Sheet in
     let rows : Rows _ = record { held = m.held; row = m.row; vacant = m.vacant } in
     let laws : RowLaws rows m.size m.lawful = record { short = met.short; sized = met.sized; restored = met.restored; kept = met.kept } in
-    record { value = c.delivered_sheet_lem.ensures; runs = broadcast_holds rows m.size m.lawful laws }
+    record { value = c.delivered_sheet.ensures; runs = broadcast_holds rows m.size m.lawful laws }

@@ -8,5 +8,5 @@ use Rattle.phases.proofs.round.PhasedRound.admits.Goals as goal
 
 pub returns : goal.returns
 unfolding admitted
-returns c = c.is-quorum.ensures.value
-    ∙ ap (λ (x : ℕ). leb (quorum c.args.n) (count c.args.n (has x))) (c.cast-for.ensures ∙ ap (for_set c.args.self.now.first) c.only.ensures)
+returns c = c.is_quorum_in.ensures.value
+    ∙ ap (λ (x : ℕ). leb (quorum c.args.n) (count c.args.n (has x))) (c.cast_for.ensures ∙ ap (for_set c.args.self.now.first) c.only.ensures)

@@ -7,5 +7,5 @@ use Rattle.phases.proofs.round.PhasedRound.has_enough.Goals as goal
 
 pub returns : goal.returns
 unfolding enough
-returns c = c.is-enough.ensures ∙ ap (λ (x : ℕ). leb (quorum c.args.n) x)
-    (count_cong c.args.n _ _ (λ j. ap₂ (λ (p q : Bool). p || q) (c.count-votes.ensures.zero j) (c.count-votes.ensures.one j)))
+returns c = c.is_enough.ensures ∙ ap (λ (x : ℕ). leb (quorum c.args.n) x)
+    (count_cong c.args.n _ _ (λ j. ap₂ (λ (p q : Bool). p || q) (c.count_votes.ensures.zero j) (c.count_votes.ensures.one j)))

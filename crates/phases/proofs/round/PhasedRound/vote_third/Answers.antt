@@ -6,8 +6,8 @@ use Rattle.phases.specs.Steps.{is_entered_lem}
 use Rattle.phases.specs.Unions.{union_some}
 use Rattle.phases.proofs.round.PhasedRound.vote_third.Goals as goal
 
-pub returns-in-default : goal.returns-in-default
-returns-in-default c =
+pub returns-in_default : goal.returns-in_default
+returns-in_default c =
     let m = meaning_of c.args.self.now in
-    let many = (and_parts _ _ (and_parts (is_entered_lem m) _ (sym c.if-may-vote-third.ensures)).1).0 in
-    absurd (let none = c.in-default.ensures in omega (arith, union_some c.args.member.n m 33 many))
+    let many = (and_parts _ _ (and_parts (is_entered_lem m) _ (sym c.if-may_vote_third.ensures)).1).0 in
+    absurd (let none = c.in_default.ensures in omega (arith, union_some c.args.member.n m 33 many))
