@@ -24,7 +24,7 @@ pub fn go_on<R: Rule>(
 )
     requires { (round < 16) × (15 * slot + 15 ≤ length rounds.old) }
     ensures ballot { ballot_meaning ballot.new ≡ gone_ballot round (set_if_any verdict) (bit_if_any shown) (ballot_meaning ballot.old) }
-    ensures rounds { map meaning rounds.new ≡ gone_rounds acts member.n member.own slot round (set_if_any verdict) (bit_if_any shown) (ballot_meaning ballot.old) (map meaning rounds.old) }
+    ensures rounds { map R.meaning rounds.new ≡ gone_rounds R.acts member.n member.own slot round (set_if_any verdict) (bit_if_any shown) (ballot_meaning ballot.old) (map R.meaning rounds.old) }
 {
     if !ballot.stage.is_round(round) {
         return;
@@ -63,8 +63,8 @@ pub fn settle_opening<R: Rule>(
     slot: u8,
 )
     requires { 15 * slot + 15 ≤ length rounds.old }
-    ensures ballot { ballot_meaning ballot.new ≡ opened_ballot acts member.n member.own slot (ballot_meaning ballot.old) }
-    ensures rounds { map meaning rounds.new ≡ opened_rounds acts member.n member.own slot (ballot_meaning ballot.old) (map meaning rounds.old) }
+    ensures ballot { ballot_meaning ballot.new ≡ opened_ballot R.acts member.n member.own slot (ballot_meaning ballot.old) }
+    ensures rounds { map R.meaning rounds.new ≡ opened_rounds R.acts member.n member.own slot (ballot_meaning ballot.old) (map R.meaning rounds.old) }
 {
     let _ = ballot.react(member, Event::Vote);
     let verdict = ballot.opening.verdict;

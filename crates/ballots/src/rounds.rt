@@ -40,7 +40,7 @@ pub fn take_rule_steps<R: Rule>(
     later: u8,
 )
     requires { place slot later < length rounds.old }
-    ensures { map meaning rounds.new ≡ ruled_rounds acts member.n member.own slot later (stage_of stage) (map meaning rounds.old) }
+    ensures { map R.meaning rounds.new ≡ ruled_rounds R.acts member.n member.own slot later (stage_of stage) (map R.meaning rounds.old) }
 {
     if stage.has_entered(later) {
         let row = &mut rounds[row_of(slot, later)];
@@ -57,7 +57,7 @@ pub fn enter_later<R: Rule>(
     bit: bool,
 )
     requires { place slot later < length rounds.old }
-    ensures { map meaning rounds.new ≡ slice_set (map meaning rounds.old) (place slot later) (acts.enter member.n member.own (bit_set bit) (slice_index_or (map meaning rounds.old) (place slot later) cleared)) }
+    ensures { map R.meaning rounds.new ≡ slice_set (map R.meaning rounds.old) (place slot later) (R.acts.enter member.n member.own (bit_set bit) (slice_index_or (map R.meaning rounds.old) (place slot later) cleared)) }
 {
     let row = &mut rounds[row_of(slot, later)];
     R::enter(row, member, bit);
@@ -66,7 +66,7 @@ pub fn enter_later<R: Rule>(
 // The verdict of a later round.
 pub fn later_verdict<R: Rule>(rounds: &[R::Record], slot: u8, later: u8) -> Option<BitSet>
     requires { place slot later < length rounds.now }
-    ensures { set_if_any result ≡ (get_or (map meaning rounds.now) (place slot later) cleared).verdict }
+    ensures { set_if_any result ≡ (get_or (map R.meaning rounds.now) (place slot later) cleared).verdict }
 {
     R::verdict(&rounds[row_of(slot, later)])
 }

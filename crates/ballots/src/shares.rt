@@ -23,7 +23,7 @@ fn due_share(taken: Option<u8>, own: Option<u8>) -> Option<u8>
 // The own share that is still to be said in a later round.
 pub fn share_to_say<C: Coin>(coin: &C, member: Member, slot: u8, later: u8) -> Option<u8>
     requires { (slot < 16) × (later < 15) }
-    ensures { result ≡ share_due acts member.own slot later coin.now }
+    ensures { result ≡ share_due C.acts member.own slot later coin.now }
 {
     if !C::uses_shares() {
         return None;
@@ -44,7 +44,7 @@ pub fn say_share<C: Coin>(
     later: u8,
 )
     requires { (slot < 16) × (later < 15) }
-    ensures { coin.new ≡ next_coin acts member.own slot later (stage_of stage) (set_if_any verdict) coin.old }
+    ensures { coin.new ≡ next_coin C.acts member.own slot later (stage_of stage) (set_if_any verdict) coin.old }
 {
     if !stage.has_entered(later) {
         return;

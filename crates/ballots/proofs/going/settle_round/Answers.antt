@@ -7,4 +7,4 @@ use Rattle.ballots.proofs.going.settle_round.Goals as goal
 
 pub returns : goal.returns
 returns g c = round_by g.R.Rule.acts g.C.Coin.acts c.args.member.n c.args.member.own c.args.slot c.args.later _ _ _ _ _ _ _ _ (add-one c.args.later)
-    c.take-rule-steps.ensures c.later-verdict-verdict.ensures c.say-share.ensures (ap bit_if_any c.bit-shown.ensures) c.go-on.ensures.ballot c.go-on.ensures.rounds
+    c.take_rule_steps.ensures c.later_verdict-verdict.ensures c.say_share.ensures (ap bit_if_any c.bit-shown.ensures) c.go_on.ensures.ballot c.go_on.ensures.rounds

@@ -5,4 +5,4 @@ use Rattle.openings.proofs.admitting.admits_one.Goals as goal
 
 pub returns : goal.returns
 unfolding admits
-returns c = ap₂ (λ (p q : Bool). p || q) c.has-proposed-one.ensures c.has_honest_in.ensures.value
+returns c = ap₂ (λ (p q : Bool). p || q) c.has_proposed_one.ensures c.has_honest_in.ensures.value

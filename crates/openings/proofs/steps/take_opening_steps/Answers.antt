@@ -12,6 +12,6 @@ returns c =
     let n = c.args.member.n in
     let own = c.args.member.own in
     let m = meaning_of c.args.round.now in
-    let done : meaning_of c.leave-round.new.round ≡ passed (opening_steps n own) m =
-    c.leave-round.ensures ∙ ap (taking (leave n own)) (c.admit-bit-2.ensures ∙ ap (taking (admit n own 2)) (c.admit-bit.ensures ∙ ap (taking (admit n own 1)) (c.join-for-one.ensures ∙ ap (taking (join_one n own)) c.join-for-zero.ensures))) in
+    let done : meaning_of c.leave_round.new.round ≡ passed (opening_steps n own) m =
+    c.leave_round.ensures ∙ ap (taking (leave n own)) (c.admit_bit-2.ensures ∙ ap (taking (admit n own 2)) (c.admit_bit.ensures ∙ ap (taking (admit n own 1)) (c.join_for_one.ensures ∙ ap (taking (join_one n own)) c.join_for_zero.ensures))) in
     record { left = done ∙ sym (opening_pass n own m); none = subst (Idle (opening_steps n own)) (sym done) (opening_idle n own m) }
