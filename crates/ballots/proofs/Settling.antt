@@ -22,3 +22,18 @@ module _ {C : Type 0} (a : Acts) (b : Coin-acts C) (n own k : ℕ) where
       er ∙ ap₂ (λ (y : ℕ) (l : List Round). gone_rounds a n own k y v x s.ballot l) eq em ∙ ap₂ (λ (y z : ℕ). gone_rounds a n own k (suc r) y z s.ballot (ruled_rounds a n own k r s.ballot.stage s.rounds)) v-is x-is in
       ap₂ (λ (p : Opened) (l : List Round). record { ballot = p; rounds = l; coin = c }) o_is r-is
       ∙ ap (λ (d : C). record { ballot = gone_ballot (suc r) V (bit_if_any (b.shown K k (suc r))) s.ballot; rounds = gone_rounds a n own k (suc r) V (bit_if_any (b.shown K k (suc r))) s.ballot (ruled_rounds a n own k r s.ballot.stage s.rounds); coin = d }) c-is
+
+  -- one round of those that are left
+  pub later_one : (r : ℕ) (s t : BallotState C) → r < 15 → t ≡ round_settled a b n own k r s → later_settled a b n own k (15 - r) r s ≡ later_settled a b n own k (15 - (r + 1)) (r + 1) t
+  unfolding later_settled
+  later_one r s t lt e =
+      ap (λ (u : ℕ). later_settled a b n own k u r s) (more r lt)
+      ∙ ap₂ (λ (q : ℕ) (x : BallotState C). later_settled a b n own k (15 - (r + 1)) q x) (sym (add-one r)) (sym e)
+    where
+      more : (r : ℕ) → r < 15 → 15 - r ≡ suc (15 - (r + 1))
+      more r lt = omega arith
+
+  -- and none that is left
+  pub later_none : (r : ℕ) (s : BallotState C) → r ≡ 15 → later_settled a b n own k (15 - r) r s ≡ s
+  unfolding later_settled
+  later_none r s e = ap (λ (q : ℕ). later_settled a b n own k (15 - q) q s) e

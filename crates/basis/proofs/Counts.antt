@@ -1,12 +1,12 @@
 -- Counting lemmas: inclusion and exclusion, quorums. Assumes nothing.
-use Rattle.std.proofs.Common.{◌≡◌, ℕ, zero, suc, ◌+◌, ◌-◌, ◌*◌, ◌/◌, ◌%◌, ◌^◌, ◌<◌, ◌≤◌, Bool, true, false, cond, not, ◌&&◌, ◌||◌, eqb, ◌⊎◌, sym, refl, ap, ◌∙◌, subst, ap₂, inl, inr, ⊎_elim, lt_of_lt_of_le, mod-lt, pow-suc, div-one, add-one, arith, pow_pos, pow_mono, shr_lt}
+use Rattle.std.proofs.Common.{◌≡◌, ℕ, zero, suc, ◌+◌, ◌-◌, ◌*◌, ◌/◌, ◌%◌, ◌^◌, ◌<◌, ◌≤◌, Bool, true, false, cond, not, ◌&&◌, ◌||◌, eqb, sym, refl, ap, ◌∙◌, subst, ap₂, ⊎_elim, lt_of_lt_of_le, mod-lt, pow-suc, div-one, add-one, arith, pow_pos, pow_mono, shr_lt}
 use native.Mathlib.Nat.{div-div-eq-div-mul, pow-succ', zero-div, div-eq_of_lt}
 use Rattle.std.proofs.lemmas.Bool.Decides.{nat_tests}
 use lib.Dec.{eqb-suc-zero, eqb-zero-suc, eqb-suc-suc}
-use lib.Bits.{bit_or, bit_and, or_shr, or_mod, or_zero_l}
+use lib.Bits.{bit_or, or_shr, or_mod, or_zero_l}
 use lib.Count.{ones, ones_step}
 use lib.Pow.{field, mod-mod-pow}
-use Rattle.std.proofs.lemmas.Bool.{and_parts, cases_Bool, cases_eq, not-true, ne_eqb}
+use Rattle.std.proofs.lemmas.Bool.{and_parts, cases_eq, ne_eqb}
 use Rattle.basis.specs.Counts.{has, count}
 
 bits : (x y : Bool) → cond (x && y) 1 0 + cond (x || y) 1 0 ≡ cond x 1 0 + cond y 1 0

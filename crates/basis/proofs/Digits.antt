@@ -1,5 +1,5 @@
 -- Numbers as bytes, the most significant first, at any number of bytes. Assumes nothing.
-use Rattle.std.proofs.Common.{◌≡◌, ℕ, zero, suc, ◌+◌, ◌*◌, ◌/◌, ◌%◌, ◌^◌, ◌<◌, ◌≤◌, List, [], ◌∷◌, ◌++◌, length, get_or, take, drop, sym, refl, ap, ◌∙◌, ap₂, mod-lt, mod-eq_of_lt, div-one, arith, lit<, get_or-drop, pow_pos}
+use Rattle.std.proofs.Common.{◌≡◌, ℕ, zero, suc, ◌+◌, ◌*◌, ◌/◌, ◌%◌, ◌^◌, ◌<◌, List, [], ◌∷◌, ◌++◌, length, get_or, take, drop, sym, refl, ap, ◌∙◌, ap₂, mod-lt, mod-eq_of_lt, div-one, arith, lit<, get_or-drop}
 use native.Mathlib.Nat.{pow-succ', mod-one}
 use lib.Arith.{digits_lt, digits_div, digits_mod, mod-mul}
 use Rattle.basis.specs.Bytes.{be, value, Octets}

@@ -1,5 +1,5 @@
 -- The dealt coin: bit r of its ballot's number, from the start and always; it uses no shares. Assumes nothing.
-use Rattle.std.specs.Prelude.{ℕ, Bool, false, Some, None, Option, slice_index}
+use Rattle.std.specs.Prelude.{ℕ, Bool, false, Some, None, slice_index}
 use Rattle.basis.specs.Counts.{has}
 use Rattle.coins.specs.declared.dealt.DealtCoin.{DealtCoin}
 use Rattle.coins.specs.Coins.{Acts}

@@ -1,5 +1,5 @@
 -- The share coin keeps what every coin keeps, and shows what polynomials say. Assumes nothing.
-use Rattle.std.specs.Prelude.{◌≡◌, ℕ, ◌+◌, ◌-◌, ◌*◌, ◌%◌, ◌<◌, ◌≤◌, Bool, true, false, cond, ◌&&◌, ◌⊎◌, List, length, get_or, Some, None, Option, ◌==◌, slice_index_or, slice_set, refl}
+use Rattle.std.specs.Prelude.{◌≡◌, ℕ, ◌<◌, ◌≤◌, Bool, true, false, cond, ◌&&◌, List, length, get_or, Some, None, Option, ◌==◌, slice_index_or, slice_set, refl}
 use Rattle.std.proofs.Common.{sym, ap, ap₂, ◌∙◌, subst, ⊎_elim, arith, length-set}
 use Rattle.std.specs.Option.{option_or}
 use Rattle.std.proofs.lemmas.List.{get_or-set_same, get_or-set_other, set-get_or}
@@ -8,7 +8,7 @@ use Rattle.polynomials.specs.Polynomials.{at}
 use Rattle.coins.specs.declared.share.Share.{Share}
 use Rattle.coins.specs.declared.share_coin.ShareCoin.{ShareCoin}
 use Rattle.coins.specs.declared.toss.Toss.{Toss}
-use Rattle.coins.specs.Coins.{Acts, Keeps, Takes, Tossed, Sender, is_for, before, left_by, take_after}
+use Rattle.coins.specs.Coins.{Keeps, Takes, Tossed, is_for, before, left_by, take_after}
 use Rattle.coins.specs.Tosses.{blank, taken_from, toss_bit, recorded, toss_taken, toss_new, SoundToss}
 use Rattle.coins.specs.Shared.{place, toss_at, share_acts, Sound, ShowsExactly, MadeOf}
 use Rattle.coins.specs.Tossing.{seat, taken_after, taken_sound, new_sound, new_none, toss_exact}

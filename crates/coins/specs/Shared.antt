@@ -1,12 +1,11 @@
 -- The share coin: a toss for each ballot and round. Assumes nothing.
-use Rattle.std.specs.Prelude.{◌≡◌, ℕ, ◌+◌, ◌-◌, ◌*◌, ◌%◌, ◌<◌, Bool, true, cond, ◌||◌, List, length, is_some, Some, None, Ok, Err, Option, Result, ◌==◌, slice_index_or, slice_set}
+use Rattle.std.specs.Prelude.{◌≡◌, ℕ, ◌+◌, ◌-◌, ◌*◌, ◌%◌, ◌<◌, Bool, true, cond, ◌||◌, List, length, is_some, Some, Ok, Err, Option, Result, ◌==◌, slice_index_or, slice_set}
 use Rattle.std.specs.Option.{unwrap_or}
 use Rattle.basis.specs.Members.{Numbers}
 use Rattle.basis.specs.Refusals.{Refused, told}
 use Rattle.basis.specs.declared.refusal.Refusal.{Refusal}
 use Rattle.polynomials.specs.Polynomials.{at}
 use Rattle.polynomials.specs.Shares.{Exact}
-use Rattle.coins.specs.declared.share.Share.{Share}
 use Rattle.coins.specs.declared.share_coin.ShareCoin.{ShareCoin}
 use Rattle.coins.specs.declared.toss.Toss.{Toss}
 use Rattle.coins.specs.Coins.{Acts, Tossed, NewCoin}

@@ -1,20 +1,20 @@
 -- What the calls on one toss of the share coin keep. Assumes nothing.
-use Rattle.std.specs.Prelude.{◌≡◌, ℕ, zero, suc, ◌+◌, ◌-◌, ◌*◌, ◌%◌, ◌^◌, ◌<◌, ◌≤◌, Bool, true, false, cond, ◌&&◌, ◌||◌, T, eqb, ◌⊎◌, List, length, is_some, Some, None, Option, ◌==◌, ◌≢◌, bit_or, nat_le, nat_lt, slice_set, refl}
+use Rattle.std.specs.Prelude.{◌≡◌, ℕ, zero, suc, ◌%◌, ◌^◌, ◌<◌, ◌≤◌, Bool, true, false, cond, ◌||◌, T, eqb, ◌⊎◌, length, is_some, Some, None, Option, ◌==◌, ◌≢◌, bit_or, nat_le, nat_lt, slice_set, refl}
 use Rattle.std.proofs.Common.{sym, ap, ◌∙◌, subst, ⊎_elim, arith, length-set, leb-true}
 use Rattle.std.specs.Int.Bits.{or_zero_l}
 use Rattle.std.specs.Option.{option_or, unwrap_or}
 use Rattle.std.proofs.lemmas.List.{get_or-set_same, get_or-set_other}
-use Rattle.std.proofs.lemmas.Bool.{and_parts, eqb-true, eqb-false, eq-eqb, ne_eqb, or_cases, or_left, or_right, both_ways, cases_eq, cases_Bool, cond-true, cond-false}
+use Rattle.std.proofs.lemmas.Bool.{and_parts, eqb-true, eq-eqb, ne_eqb, or_cases, or_left, or_right, both_ways, cases_eq, cond-true, cond-false}
 use Rattle.std.proofs.lemmas.Bool.Decides.{nat_tests}
 use Rattle.basis.specs.Counts.{has, count}
-use Rattle.basis.specs.Halls.{listed, faults, quorum, largest}
+use Rattle.basis.specs.Halls.{listed, faults, quorum}
 use Rattle.basis.proofs.Counts.{count_cong, has_or, has_one, has_none}
 use Rattle.basis.specs.declared.member.Member.{Member}
 use Rattle.polynomials.specs.Polynomials.{at}
-use Rattle.polynomials.specs.Shares.{Hall, Exact, shown_of}
+use Rattle.polynomials.specs.Shares.{Hall, Exact}
 use Rattle.polynomials.proofs.Choosing.{bit_stays, exact_same, few_show_none, shown_exact}
 use Rattle.coins.specs.declared.toss.Toss.{Toss}
-use Rattle.coins.specs.Tosses.{toss_new, taken_from, held_of, shares_of, toss_bit, recorded, looked, toss_taken, SoundToss}
+use Rattle.coins.specs.Tosses.{toss_new, taken_from, held_of, shares_of, toss_bit, recorded, toss_taken, SoundToss}
 
 -- a listed hall has 3f + 1 replicas, with f from 1 on
 pub record Seat (n own : ℕ) : Type 0 where

@@ -1,10 +1,10 @@
 -- The tags that a mask names. Assumes nothing.
-use Rattle.std.proofs.Common.{◌≡◌, ℕ, ◌-◌, ◌^◌, ◌<◌, ◌≤◌, Bool, true, false, ◌&&◌, ◌||◌, eqb, leb, sym, refl, ap, ◌∙◌, ⊎_elim, arith}
+use Rattle.std.proofs.Common.{◌≡◌, ℕ, ◌-◌, ◌^◌, ◌≤◌, Bool, true, false, ◌&&◌, ◌||◌, eqb, sym, refl, ap, ◌∙◌, ⊎_elim, arith}
 use lib.Bits.{bit_or}
-use Rattle.std.proofs.lemmas.Bool.{eq-eqb, ne_eqb, eqb-true, leb-true, cases_eq, and_parts, cases_Bool}
+use Rattle.std.proofs.lemmas.Bool.{eq-eqb, ne_eqb, leb-true, cases_eq, and_parts, cases_Bool}
 use Rattle.basis.specs.Counts.{has}
 use Rattle.basis.proofs.Counts.{has_none, has_or, has_one}
-use Rattle.messages.specs.Tags.{uses, is_set_tag}
+use Rattle.messages.specs.Tags.{is_set_tag}
 
 and_false : (x : Bool) → (x && false) ≡ false
 and_false true = refl

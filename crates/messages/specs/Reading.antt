@@ -1,5 +1,5 @@
 -- What reading a packet answers, and the law that it is the inverse of writing. Assumes nothing.
-use Rattle.std.specs.Prelude.{◌≡◌, ℕ, ◌+◌, ◌*◌, ◌<◌, ◌≤◌, Bool, true, false, cond, ◌&&◌, List, length, drop, Some, None, Ok, Err, Option, Result, ◌==◌, nat_le, nat_lt, slice_index}
+use Rattle.std.specs.Prelude.{◌≡◌, ℕ, ◌+◌, ◌*◌, ◌<◌, ◌≤◌, Bool, true, cond, ◌&&◌, List, length, drop, Some, None, Ok, Err, Option, Result, ◌==◌, nat_le, nat_lt, slice_index}
 use Rattle.basis.specs.Bytes.{Octets}
 use Rattle.basis.specs.Refusals.{Refused, refused, told}
 use Rattle.basis.specs.declared.refusal.Refusal.{Refusal}

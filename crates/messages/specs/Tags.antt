@@ -1,5 +1,5 @@
 -- Tags and the numbers of values. Assumes nothing.
-use Rattle.std.specs.Prelude.{ℕ, ◌-◌, ◌^◌, Bool, true, false, cond, ◌&&◌, ◌||◌, Some, None, Option, ◌==◌, bit_or, nat_le}
+use Rattle.std.specs.Prelude.{ℕ, ◌-◌, ◌^◌, Bool, cond, ◌&&◌, ◌||◌, Some, None, Option, ◌==◌, bit_or, nat_le}
 use Rattle.basis.specs.Counts.{has}
 use Rattle.messages.specs.declared.message.BitSet.{BitSet}
 use Rattle.messages.specs.declared.message.BitSet.TheVariants.{Zero, One, Both}

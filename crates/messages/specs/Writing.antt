@@ -1,6 +1,6 @@
 -- A message's bytes and position, and what writing it leaves. Assumes nothing.
-use Rattle.std.specs.Prelude.{◌≡◌, ℕ, ◌+◌, ◌*◌, ◌<◌, ◌≤◌, Bool, true, false, cond, List, [], ◌∷◌, ◌++◌, length, drop, Ok, Err, Result, nat_lt}
-use Rattle.basis.specs.Bytes.{be, Octets}
+use Rattle.std.specs.Prelude.{ℕ, ◌+◌, ◌*◌, Bool, true, false, cond, List, [], ◌∷◌, ◌++◌, length, drop, Ok, Result, nat_lt}
+use Rattle.basis.specs.Bytes.{be}
 use Rattle.basis.specs.Refusals.{Refused, refused}
 use Rattle.messages.specs.declared.message.Message.{Message}
 use Rattle.messages.specs.declared.message.Message.TheVariants.{Sheet, Bit, Set, Share}

@@ -1,5 +1,5 @@
 -- To try all choices of f + 1 held shares of the first 2f + 1 replicas is exact. Assumes nothing.
-use Rattle.std.proofs.Common.{◌≡◌, ℕ, zero, suc, ◌+◌, ◌-◌, ◌*◌, ◌/◌, ◌%◌, ◌^◌, ◌<◌, ◌≤◌, Bool, true, false, cond, ◌&&◌, ◌||◌, eqb, leb, List, [], ◌∷◌, length, Some, None, Option, sym, refl, ap, ◌∙◌, subst, ap₂, ⊎_elim, add-zero, add-suc, add-one, arith, le-leb, leb-true}
+use Rattle.std.proofs.Common.{◌≡◌, ℕ, zero, suc, ◌+◌, ◌-◌, ◌/◌, ◌%◌, ◌^◌, ◌<◌, ◌≤◌, Bool, true, false, cond, ◌&&◌, ◌||◌, eqb, leb, List, Some, None, Option, sym, refl, ap, ◌∙◌, subst, ⊎_elim, add-zero, add-suc, add-one, arith, le-leb, leb-true}
 use lib.Bits.{bit_and, bit_or, or_lt, and_shr, and_mod, and_zero_l}
 use lib.Pow.{pow-lt}
 use borrow.Author.Tests.{lt-leb}
@@ -8,8 +8,8 @@ use Rattle.std.proofs.lemmas.Bool.{and_parts, and_from, eqb-true, eq-eqb, ne_eqb
 use Rattle.basis.specs.Counts.{has, count}
 use Rattle.basis.specs.Halls.{largest, faults, quorum, beyond_faults}
 use Rattle.basis.proofs.Counts.{count_cong, count_same, count_more, count_yes, count_no, count_mono, quorums_meet, has_or, has_one, has_none, has_high}
-use Rattle.polynomials.specs.Polynomials.{ev, Same, through, nval, Newtons, MeetsAll}
-use Rattle.polynomials.specs.Shares.{Hall, meets, meets_by, low_bit, Enough, NoneMeets, BitOf, Exact, OneValue, OneBit, of_size, is_choice, chosen, bit_if_met, tried, first_of, shown_of}
+use Rattle.polynomials.specs.Polynomials.{ev, Same, nval, Newtons, MeetsAll}
+use Rattle.polynomials.specs.Shares.{Hall, meets, meets_by, low_bit, Enough, BitOf, Exact, OneValue, OneBit, of_size, is_choice, chosen, bit_if_met, tried, first_of, shown_of}
 use Rattle.polynomials.proofs.Roots.{at_most_one}
 use Rattle.polynomials.proofs.Interpolation.{interpolates}
 

@@ -1,8 +1,8 @@
 -- Newton's polynomial meets the shares that it goes through. Assumes nothing.
-use Rattle.std.proofs.Common.{◌≡◌, ℕ, zero, suc, ◌+◌, ◌-◌, ◌*◌, ◌%◌, ◌<◌, ◌≤◌, Bool, true, false, cond, ◌&&◌, List, [], ◌∷◌, length, sym, refl, ap, ◌∙◌, ⊎_elim, add-mul, arith}
+use Rattle.std.proofs.Common.{◌≡◌, ℕ, zero, suc, ◌+◌, ◌-◌, ◌*◌, ◌%◌, ◌<◌, ◌≤◌, Bool, true, false, cond, List, ◌∷◌, length, sym, refl, ap, ◌∙◌, ⊎_elim, add-mul, arith}
 use Rattle.std.proofs.lemmas.Bool.{cases_eq, both_ways}
 use Rattle.basis.specs.Counts.{count}
-use Rattle.polynomials.specs.Polynomials.{ev, Same, inv, plus, times, newton, slope, through, MeetsAll, Interpolates}
+use Rattle.polynomials.specs.Polynomials.{ev, Same, inv, times, newton, slope, through, MeetsAll, Interpolates}
 use Rattle.polynomials.proofs.Modular.{over_times, same_times}
 use Rattle.polynomials.proofs.Roots.{ev_plus, ev_times, length_plus, length_times}
 

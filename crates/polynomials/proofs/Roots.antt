@@ -1,9 +1,9 @@
 -- Two polynomials that agree at as many points as they have coefficients agree everywhere. Assumes nothing.
-use Rattle.std.proofs.Common.{◌≡◌, ℕ, zero, suc, ◌+◌, ◌-◌, ◌*◌, ◌%◌, ◌<◌, ◌≤◌, Bool, true, false, cond, ◌&&◌, List, [], ◌∷◌, length, sym, refl, ap, ◌∙◌, ap₂, add-zero, add_assoc, mul_assoc, mul_comm, add-mul, add_comm, mul-zero, zero-add, zero-mul, mul-add, mul_left_comm, arith}
+use Rattle.std.proofs.Common.{◌≡◌, ℕ, zero, suc, ◌+◌, ◌-◌, ◌*◌, ◌<◌, ◌≤◌, Bool, true, false, cond, List, [], ◌∷◌, length, sym, refl, ap, ◌∙◌, add-zero, add_assoc, add-mul, mul-zero, zero-add, mul-add, mul_left_comm, arith}
 use native.Mathlib.Nat.{add_left_comm}
 use Rattle.basis.specs.Counts.{count}
 use Rattle.polynomials.specs.Polynomials.{ev, Same, plus, times, AtMostOne}
-use Rattle.polynomials.proofs.Modular.{cancel, same_times, same_plus, same_less}
+use Rattle.polynomials.proofs.Modular.{cancel, same_times}
 
 -- the quotient by z - r
 quo : ℕ → List ℕ → List ℕ

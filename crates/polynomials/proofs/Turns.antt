@@ -1,7 +1,7 @@
 -- Turns of the loops. Assumes nothing.
-use Rattle.std.proofs.Common.{◌≡◌, ℕ, zero, suc, ◌+◌, ◌-◌, ◌*◌, ◌%◌, ◌^◌, ◌<◌, ◌≤◌, Bool, true, false, cond, ◌&&◌, List, [], ◌∷◌, length, sym, refl, ap, ◌∙◌, add-mul, add-one, arith}
+use Rattle.std.proofs.Common.{◌≡◌, ℕ, suc, ◌+◌, ◌-◌, ◌*◌, ◌%◌, ◌<◌, ◌≤◌, Bool, true, false, sym, refl, ap, ◌∙◌, add-mul, add-one, arith}
 use native.Mathlib.Nat.{mod-mod}
-use Rattle.polynomials.specs.Polynomials.{ev, Same, newton, slope, through, nval}
+use Rattle.polynomials.specs.Polynomials.{ev, Same, slope, through, nval}
 use Rattle.polynomials.proofs.Modular.{same_plus, same_times}
 use Rattle.polynomials.proofs.Roots.{at_most_one}
 use Rattle.polynomials.proofs.Interpolation.{interpolates, ev_newton}

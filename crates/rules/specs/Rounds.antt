@@ -1,5 +1,5 @@
 -- What a round means under any rule, and what hearing a vote answers. Assumes nothing.
-use Rattle.std.specs.Prelude.{ℕ, Bool, true, false, cond, not, ◌&&◌, ◌||◌, Some, None, Ok, Err, Option, Result, ◌==◌, nat_lt}
+use Rattle.std.specs.Prelude.{ℕ, Bool, false, cond, not, ◌&&◌, ◌||◌, Some, None, Ok, Err, Option, Result, ◌==◌, nat_lt}
 use Rattle.basis.specs.declared.heard.Heard.{Heard}
 use Rattle.basis.specs.declared.heard.Heard.TheVariants.{New, Known}
 use Rattle.messages.specs.declared.message.BitSet.{BitSet}

@@ -1,5 +1,5 @@
 -- Whether a table's row holds a sheet, by its bytes. Assumes nothing.
-use Rattle.std.specs.Prelude.{ℕ, Bool, true, false, cond, List, Some, None, Option}
+use Rattle.std.specs.Prelude.{ℕ, Bool, false, cond, List, Some, None, Option}
 use Rattle.std.specs.Str.{bytes_eq}
 
 -- a place that holds nothing, or the sheet of the given bytes: does it hold that of the bytes s?

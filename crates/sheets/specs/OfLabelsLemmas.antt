@@ -1,13 +1,13 @@
 -- Labels and their bytes: the same bytes are the same sheet, and a row gives back what it was made of. Assumes nothing.
-use Rattle.std.specs.Prelude.{◌≡◌, ℕ, zero, suc, ◌+◌, ◌*◌, ◌/◌, ◌%◌, ◌^◌, ◌<◌, ◌≤◌, Bool, true, false, cond, List, [], ◌∷◌, ◌++◌, length, take, drop, Some, None, Option, nat_eq, slice_index, refl}
-use Rattle.std.proofs.Common.{sym, ap, ap₂, subst, ◌∙◌, div-one, arith, eq-eqb, eqb-true, length-take, length-drop, take-append-drop, take_all}
+use Rattle.std.specs.Prelude.{◌≡◌, ℕ, ◌+◌, ◌^◌, ◌<◌, ◌≤◌, Bool, true, false, cond, List, [], ◌∷◌, ◌++◌, length, take, drop, Some, None, nat_eq, slice_index, refl}
+use Rattle.std.proofs.Common.{sym, ap, ap₂, subst, ◌∙◌, div-one, arith, eq-eqb, eqb-true, length-take, length-drop, take-append-drop}
 use Rattle.std.proofs.Math.Bridge.{le_prop}
 use borrow.Rule.Slice.PartMut.{put_mid, post_of}
 use Rattle.std.proofs.lemmas.Slice.Eq.{bytes_eq-Decides}
 use Rattle.std.proofs.lemmas.List.{drop-drop}
 use Rattle.std.proofs.lemmas.Bool.{cond-true}
 use Rattle.basis.specs.Bytes.{be, value, Octets}
-use Rattle.basis.proofs.Digits.{value_lt, value_be_lt, be_value, be_inj, octets_be, length_be, octets_take, octets_drop, octets_append}
+use Rattle.basis.proofs.Digits.{value_lt, value_be_lt, be_value, be_inj, octets_be, octets_take, octets_drop, octets_append}
 use Rattle.sheets.specs.Holds.{holds, if_lawful}
 use Rattle.sheets.specs.OfLabels.{file_bytes, label_bytes, label_lawful, label_held, label_row, part}
 use Rattle.sheets.specs.declared.kinds.Label.{Label}

@@ -1,6 +1,6 @@
 -- Takings and their bytes: the same bytes are the same sheet, and a row gives back what it was made of. Assumes nothing.
-use Rattle.std.specs.Prelude.{◌≡◌, ℕ, zero, suc, ◌+◌, ◌*◌, ◌/◌, ◌%◌, ◌^◌, ◌<◌, ◌≤◌, Bool, true, false, cond, ◌&&◌, T, List, [], ◌∷◌, ◌++◌, length, take, drop, ℤ, pos, negsuc, ◌≤ℤ◌, Some, None, Ok, Err, Option, FitsSigned, ◌==◌, int_le, nat_eq, refl}
-use Rattle.std.proofs.Common.{sym, ap, ap₂, subst, ◌∙◌, arith, div-one, eq-eqb, eqb-true, lit<, length-take, length-drop, take-append-drop, get_or-drop, of_z, to_z}
+use Rattle.std.specs.Prelude.{◌≡◌, ℕ, ◌^◌, ◌<◌, Bool, true, false, cond, T, List, ◌++◌, length, take, drop, ℤ, pos, negsuc, ◌≤ℤ◌, Some, None, Ok, FitsSigned, ◌==◌, int_le, nat_eq, refl}
+use Rattle.std.proofs.Common.{sym, ap, ap₂, subst, ◌∙◌, arith, div-one, eq-eqb, eqb-true, length-take, length-drop, take-append-drop, of_z, to_z}
 use Rattle.std.proofs.Math.Bridge.{le_prop}
 use borrow.Rule.Slice.PartMut.{put_mid, post_of}
 use Rattle.std.proofs.Math.Dec.{T_prop}
@@ -8,10 +8,10 @@ use Rattle.std.specs.Int.{w64}
 use Rattle.std.proofs.lemmas.Slice.Eq.{bytes_eq-Decides}
 use Rattle.std.proofs.lemmas.List.{drop-drop}
 use Rattle.std.proofs.lemmas.Int.{to_z-of_z, of_z-to_z, ints}
-use Rattle.std.proofs.lemmas.Bool.{cond-true, cond-false, and_parts, cond_both}
+use Rattle.std.proofs.lemmas.Bool.{cond-true, and_parts}
 use Rattle.basis.specs.Bytes.{be, value, Octets}
 use Rattle.basis.specs.Refusals.{refused}
-use Rattle.basis.proofs.Digits.{value_lt, value_be_lt, be_value, be_inj, octets_be, length_be, octets_take, octets_drop, octets_append}
+use Rattle.basis.proofs.Digits.{value_lt, value_be_lt, be_value, be_inj, octets_be, octets_take, octets_drop, octets_append}
 use Rattle.sheets.specs.Holds.{holds, if_lawful}
 use Rattle.sheets.specs.Tests.{no_true}
 use Rattle.sheets.specs.OfTakings.{in_range_lem, amount_bytes, takings_bytes, takings_lawful, takings_held, takings_row, takings_made, fields}

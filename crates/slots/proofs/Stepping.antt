@@ -1,8 +1,7 @@
 -- Steps one after the other: which is taken, and what is left when none applies. Assumes nothing.
-use Rattle.std.proofs.Common.{◌≡◌, ℕ, zero, suc, ◌+◌, ◌<◌, ◌≤◌, Bool, true, false, cond, List, is_some, Some, None, Option, sym, refl, ap, ◌∙◌, subst, ap₂, arith}
+use Rattle.std.proofs.Common.{◌≡◌, ℕ, zero, suc, Bool, false, List, is_some, Some, None, Option, sym, refl, ap, ◌∙◌, ap₂}
 use Rattle.std.proofs.lemmas.Bool.{false≢true}
 use Rattle.std.specs.Option.{option_map}
-use Rattle.messages.specs.declared.message.Phase.{Phase}
 use Rattle.messages.specs.declared.message.Phase.TheVariants.{Send, Echo, Ready}
 use Rattle.slots.specs.Places.{Rows, or_else, recorded, to_ready}
 use Rattle.slots.specs.Steps.{Slots, unless, marked, noted, said_due, echo_due, ready_due, delivery_due, delivered_by, next, go_on, stepped, settled}

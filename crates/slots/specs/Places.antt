@@ -1,5 +1,5 @@
 -- Where a slot's sheets stand in the table of sheet places, and what stands there. Assumes nothing.
-use Rattle.std.specs.Prelude.{ℕ, zero, suc, ◌+◌, ◌*◌, Bool, true, false, cond, List, Some, None, Option, nat_le, slice_index_or}
+use Rattle.std.specs.Prelude.{ℕ, zero, suc, ◌+◌, ◌*◌, Bool, false, cond, List, Some, None, Option, nat_le, slice_index_or}
 use Rattle.basis.specs.Counts.{count}
 use Rattle.basis.specs.Halls.{quorum, beyond_faults}
 use Rattle.messages.specs.declared.message.Phase.{Phase}

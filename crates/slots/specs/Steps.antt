@@ -1,5 +1,5 @@
 -- The steps of a slot: when each applies and what it changes. Assumes nothing.
-use Rattle.std.specs.Prelude.{ℕ, zero, suc, ◌+◌, ◌*◌, Bool, true, false, cond, List, Some, None, Option, slice_index_or, slice_set}
+use Rattle.std.specs.Prelude.{ℕ, zero, suc, List, Some, None, Option, slice_index_or, slice_set}
 use Rattle.std.specs.Option.{option_map}
 use Rattle.basis.specs.Halls.{quorum}
 use Rattle.messages.specs.declared.message.Phase.{Phase}

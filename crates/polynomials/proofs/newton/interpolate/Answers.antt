@@ -1,5 +1,5 @@
 -- A turn of Newton's rule, at a chosen point and at another.
-use Rattle.std.proofs.Common.{◌≡◌, ℕ, suc, ◌+◌, ◌-◌, ◌*◌, ◌%◌, ◌<◌, ◌≤◌, sym, refl, ap, ◌∙◌, arith}
+use Rattle.std.proofs.Common.{◌≡◌, suc, ◌-◌, sym, refl, ◌∙◌, arith}
 use Rattle.basis.specs.Counts.{has}
 use Rattle.polynomials.specs.Polynomials.{through, at, nval}
 use Rattle.polynomials.proofs.Roots.{at_most_one}

@@ -1,5 +1,5 @@
 -- What the lower numbers still have to give, at any value z.
-use Rattle.std.proofs.Common.{◌≡◌, ℕ, ◌%◌, ◌≤◌}
+use Rattle.std.proofs.Common.{◌≡◌, ℕ, ◌≤◌}
 use Rattle.basis.specs.Counts.{has}
 use Rattle.polynomials.specs.Polynomials.{ev, Same, through, at, nval}
 use Rattle.polynomials.proofs.newton.interpolate.Given as goal

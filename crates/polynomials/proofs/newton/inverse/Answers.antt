@@ -1,5 +1,5 @@
 -- The table holds the inverses, by one computed test.
-use Rattle.std.proofs.Common.{ℕ, eqb, List, [], ◌∷◌, get_or, refl, arith}
+use Rattle.std.proofs.Common.{eqb, [], ◌∷◌, get_or, refl}
 use Rattle.std.proofs.lemmas.Bool.{eqb-true}
 use Rattle.polynomials.specs.Polynomials.{inv}
 use Rattle.polynomials.proofs.Modular.{all_below, passes, cancel}

@@ -1,5 +1,5 @@
 -- One slope more: each is taken from the values that the loop began with.
-use Rattle.std.proofs.Common.{◌≡◌, ℕ, ◌+◌, ◌-◌, ◌*◌, ◌%◌, ◌<◌, ◌≤◌, ◌≢◌, length, get_or, sym, refl, ap, ◌∙◌, ap₂, arith, get_or-set_other, get_or-set_same, below_more}
+use Rattle.std.proofs.Common.{ℕ, ◌+◌, ◌-◌, ◌*◌, ◌%◌, ◌<◌, ◌≢◌, length, get_or, ap, ◌∙◌, ap₂, arith, get_or-set_other, get_or-set_same, below_more}
 use Rattle.polynomials.specs.Polynomials.{inv, slope}
 use Rattle.polynomials.proofs.newton.slopes.Goals as goal
 

@@ -1,5 +1,5 @@
 -- A turn of Newton's rule, at a chosen point and at another.
-use Rattle.std.proofs.Common.{◌≡◌, sym, refl, ◌∙◌}
+use Rattle.std.proofs.Common.{sym, refl, ◌∙◌}
 use Rattle.basis.specs.Counts.{has}
 use Rattle.polynomials.specs.Polynomials.{at, nval}
 use Rattle.polynomials.proofs.Turns.{value_in, value_out}

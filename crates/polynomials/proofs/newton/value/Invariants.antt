@@ -1,5 +1,5 @@
 -- The value by the numbers below i.
-use Rattle.std.proofs.Common.{◌≡◌, ℕ, ◌%◌}
+use Rattle.std.proofs.Common.{◌≡◌, ◌%◌}
 use Rattle.basis.specs.Counts.{has}
 use Rattle.polynomials.specs.Polynomials.{at, nval}
 use Rattle.polynomials.proofs.newton.value.Given as goal

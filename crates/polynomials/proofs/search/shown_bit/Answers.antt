@@ -1,8 +1,8 @@
 -- Turns of the search: a choice that is skipped, one that fails, and one that is found.
-use Rattle.std.proofs.Common.{◌≡◌, ℕ, ◌+◌, ◌^◌, ◌<◌, ◌≤◌, Bool, true, false, Some, None, Option, sym, refl, ap, ◌∙◌, subst, arith, eqb-true, leb-true}
+use Rattle.std.proofs.Common.{◌≡◌, ℕ, ◌^◌, ◌<◌, Bool, true, Some, None, Option, sym, refl, ap, ◌∙◌, subst, arith, eqb-true, leb-true}
 use borrow.Author.Tests.{eqb-false}
 use Rattle.basis.specs.Counts.{has, count}
-use Rattle.basis.specs.Halls.{faults, quorum}
+use Rattle.basis.specs.Halls.{quorum}
 use Rattle.polynomials.specs.Polynomials.{at}
 use Rattle.polynomials.specs.Shares.{first_of, shown_of, tried, meets_by, Exact, is_choice}
 use Rattle.polynomials.proofs.Choosing.{first_none, first_some, met_at, met_more, met_no_more, missed, turn_skipped, turn_failed, turn_found, shown_exact, one_value, one_bit}

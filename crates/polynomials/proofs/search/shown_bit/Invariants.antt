@@ -1,7 +1,7 @@
 -- No choice before this one shows anything; so many shares before j are met, and not yet enough.
-use Rattle.std.proofs.Common.{◌≡◌, ℕ, ◌+◌, ◌<◌, ◌≤◌, None}
+use Rattle.std.proofs.Common.{◌≡◌, ◌<◌, ◌≤◌, None}
 use Rattle.basis.specs.Counts.{has, count}
-use Rattle.basis.specs.Halls.{quorum, faults}
+use Rattle.basis.specs.Halls.{quorum}
 use Rattle.polynomials.specs.Polynomials.{at}
 use Rattle.polynomials.specs.Shares.{meets_by, tried, first_of}
 use Rattle.polynomials.proofs.search.shown_bit.Given as goal

@@ -1,5 +1,5 @@
 -- Beyond the tables nothing stands.
-use Rattle.std.proofs.Common.{◌≡◌, ℕ, ◌≤◌, length, get_or, Some, sym, ap, ◌∙◌, arith, rules}
+use Rattle.std.proofs.Common.{◌≡◌, ◌≤◌, length, get_or, Some, sym, ap, ◌∙◌, arith, rules}
 use Rattle.std.proofs.lemmas.List.{get_or_past}
 use Rattle.messages.specs.declared.message.Phase.TheVariants.{Ready}
 use Rattle.slots.specs.Places.{Rows, sheet_of, place}

@@ -1,5 +1,5 @@
 -- One sender more, who has the sheet or has not.
-use Rattle.std.proofs.Common.{◌≡◌, ℕ, ◌+◌, Bool, sym, refl, ap, ◌∙◌, arith, rules}
+use Rattle.std.proofs.Common.{ℕ, ◌+◌, Bool, sym, refl, ap, ◌∙◌, arith}
 use Rattle.basis.specs.Counts.{count}
 use Rattle.basis.proofs.Counts.{count_yes, count_no}
 use Rattle.sheets.specs.Holds.{holds}

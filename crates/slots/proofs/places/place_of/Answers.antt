@@ -1,5 +1,5 @@
 -- Each phase has its own part of the slot's places.
-use Rattle.std.proofs.Common.{◌≡◌, ℕ, ◌+◌, ◌*◌, ◌<◌, sym, ap, ◌∙◌, subst, ap₂}
+use Rattle.std.proofs.Common.{◌≡◌, ◌+◌, ◌*◌, ◌<◌, sym, ap, ◌∙◌, subst, ap₂}
 use Rattle.slots.specs.Places.{place, all_places}
 use Rattle.slots.proofs.Positions.{place_within}
 use Rattle.slots.proofs.places.place_of.Goals as goal

@@ -1,7 +1,5 @@
 -- A step that was taken is one fewer to take; where none applies, none is left.
-use Rattle.std.proofs.Common.{◌≡◌, ℕ, suc, ◌+◌, ◌-◌, sym, ap, ◌∙◌, arith}
-use Rattle.slots.specs.Places.{Rows}
-use Rattle.slots.specs.Steps.{Slots, settled, next}
+use Rattle.std.proofs.Common.{◌≡◌, suc, ◌+◌, ◌-◌, sym, ◌∙◌, arith}
 use Rattle.slots.proofs.Stepping.{taken, stopped, ended}
 use Rattle.slots.proofs.steps.settle.Goals as goal
 

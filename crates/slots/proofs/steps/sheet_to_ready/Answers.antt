@@ -1,5 +1,5 @@
 -- A sheet with a quorum of echoes goes before one with readies.
-use Rattle.std.proofs.Common.{◌≡◌, ℕ, true, Some, sym, ap, ◌∙◌, subst}
+use Rattle.std.proofs.Common.{◌≡◌, ℕ, true, Some, ap, ◌∙◌, subst}
 use Rattle.basis.specs.Halls.{quorum, beyond_faults}
 use Rattle.messages.specs.declared.message.Phase.TheVariants.{Echo, Ready}
 use Rattle.slots.specs.Places.{Rows, or_else, sheet_of, leader, backed}

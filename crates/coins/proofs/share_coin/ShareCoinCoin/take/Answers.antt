@@ -1,5 +1,5 @@
 -- The share's toss alone is changed, and only by a new share.
-use Rattle.std.proofs.Common.{◌≡◌, ℕ, get_or, ap, ◌∙◌}
+use Rattle.std.proofs.Common.{ℕ, get_or, ap, ◌∙◌}
 use Rattle.coins.specs.Coins.{answer_by}
 use Rattle.coins.specs.Tosses.{blank, taken_from}
 use Rattle.coins.specs.Keeping.{put_back}

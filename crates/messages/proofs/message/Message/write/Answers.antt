@@ -1,5 +1,5 @@
 -- Tag, length and slot, and then the sheet.
-use Rattle.std.proofs.Common.{◌≡◌, ◌++◌, length, drop, sym, ap, ◌∙◌, arith, rules}
+use Rattle.std.proofs.Common.{◌≡◌, length, sym, ap, ◌∙◌, rules}
 use Rattle.messages.specs.Writing.{on_sheet, written, tag_of, slot_of, write_output}
 use Rattle.messages.proofs.Fit.{sheet_written}
 use Rattle.messages.proofs.message.Message.write.Goals as goal

@@ -1,5 +1,5 @@
 -- One bit more is one tag more.
-use Rattle.std.proofs.Common.{◌≡◌, ℕ, ◌-◌, ◌&&◌, ◌||◌, eqb, ap, ◌∙◌, arith, rules}
+use Rattle.std.proofs.Common.{◌-◌, ◌&&◌, ◌||◌, eqb, ap, ◌∙◌, arith, rules}
 use Rattle.basis.specs.Counts.{has}
 use Rattle.messages.specs.Tags.{is_set_tag}
 use Rattle.messages.proofs.OfTags.{one_more}

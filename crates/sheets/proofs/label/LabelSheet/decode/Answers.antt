@@ -1,8 +1,7 @@
 -- Thirty-six bytes are read as the numbers that they stand for.
-use Rattle.std.proofs.Common.{◌≡◌, ℕ, ◌≤◌, true, eqb, List, length, take, Some, None, sym, ap, ◌∙◌, arith, length-drop, length-take, take_all, eq-eqb}
+use Rattle.std.proofs.Common.{◌≡◌, ℕ, ◌≤◌, eqb, List, length, take, Some, None, sym, ap, ◌∙◌, arith, length-take, take_all, eq-eqb}
 use Rattle.std.proofs.lemmas.Bool.{cond-true}
 use Rattle.basis.proofs.Digits.{value4, value8}
-use Rattle.sheets.specs.OfLabels.{label_bytes}
 use Rattle.sheets.specs.OfLabelsLemmas.{read_five}
 use Rattle.sheets.proofs.label.LabelSheet.decode.Goals as goal
 

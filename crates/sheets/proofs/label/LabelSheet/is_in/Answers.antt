@@ -1,7 +1,7 @@
 -- The fields are compared; what differs in a field differs in its bytes.
-use Rattle.std.proofs.Common.{◌≡◌, ◌^◌, ◌<◌, true, arith, w32, Fits, rules, eq-eqb, eqb-true}
+use Rattle.std.proofs.Common.{◌^◌, ◌<◌, rules, eq-eqb, eqb-true}
 use Rattle.std.proofs.lemmas.Bool.{and_parts, and_from}
-use Rattle.sheets.specs.OfLabelsLemmas.{is_held, not_held, Wide, Agree}
+use Rattle.sheets.specs.OfLabelsLemmas.{is_held, not_held, Wide}
 use Rattle.sheets.specs.Tests.{test_is}
 use Rattle.sheets.proofs.label.LabelSheet.is_in.Goals as goal
 

@@ -1,5 +1,5 @@
 -- The two numbers, one after the other.
-use Rattle.std.proofs.Common.{sym, ap, ◌∙◌, w64, of_z}
+use Rattle.std.proofs.Common.{ap, ◌∙◌, w64, of_z}
 use Rattle.std.proofs.lemmas.Int.{to_z-of_z}
 use Rattle.basis.proofs.Digits.{be4, be8}
 use Rattle.basis.specs.Bytes.{be}

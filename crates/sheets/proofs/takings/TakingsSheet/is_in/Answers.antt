@@ -1,5 +1,5 @@
 -- The fields are compared; what differs in a field differs in its bytes.
-use Rattle.std.proofs.Common.{◌≡◌, sym, ap, ◌∙◌, arith, w32, w64, Fits, SFits, to_z, of_z, rules, eq-eqb, eqb-true}
+use Rattle.std.proofs.Common.{sym, ap, ◌∙◌, arith, w32, w64, Fits, SFits, to_z, of_z, rules, eq-eqb, eqb-true}
 use Rattle.std.proofs.lemmas.Int.{to_z-of_z}
 use Rattle.std.proofs.lemmas.Bool.{and_parts, and_from}
 use Rattle.sheets.specs.OfTakingsLemmas.{is_held, not_held, range_fits, in_range_of}
