@@ -1,5 +1,5 @@
 // What every coin does: it shows bits, and takes shares if it uses any.
-ghost use Rattle.std.specs.Prelude.{◌≡◌, true};
+ghost use Rattle.std.specs.Prelude.{◌≡◌};
 ghost use Rattle.basis.specs.Refusals.{numbered};
 ghost use Rattle.coins.specs.Coins.{Acts, Keeps, Tossed, Sender, Lawful, take_answer, take_after};
 
@@ -31,10 +31,10 @@ pub trait Coin {
         requires { (Tossed ballot round) × (Sender sender) }
         ensures { result ≡ acts.taken_of self.now ballot round sender };
 
-    // Takes a share: new, known, or refused where another share of that sender was taken for that ballot and round.
+    // Takes a share: new, known, or refused where another share of that sender was taken for that ballot and round. A coin
+    // that uses no shares is not asked to; what it does all the same is what its calls come to.
     fn take(&mut self, share: Share) -> Result<Heard, Reason>
-        requires used { acts.uses ≡ true }
-        requires lawful { Lawful share }
+        requires { Lawful share }
         ensures answer { numbered result ≡ take_answer acts self.old share }
         ensures left { self.new ≡ take_after acts self.old share };
 
