@@ -4,7 +4,6 @@
 
 pub mod hall;
 pub mod heard;
-pub mod join;
 pub mod member;
 pub mod refusal;
 pub mod replicas;

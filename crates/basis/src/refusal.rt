@@ -2,6 +2,8 @@
 ghost use Rattle.std.specs.Prelude.{◌≡◌};
 ghost use Rattle.basis.specs.Refusals.{number_of, meaning_of, refusal, NumbersApart};
 
+use std::fmt;
+
 // The reasons in the order in which a call checks for them; each has a number of its own.
 #[derive(Clone, Copy, PartialEq, Eq, Debug)]
 pub enum Reason {
@@ -29,6 +31,16 @@ pub enum Reason {
 pub struct Refusal {
     pub reason: Reason,
     pub place: usize,
+}
+
+// A refusal in words: its number, its place and what it means.
+impl fmt::Display for Refusal {
+    fn fmt<W: fmt::Write>(&self, f: &mut fmt::Formatter<W>) -> fmt::Result {
+        let number = self.reason.number();
+        let place = self.place;
+        let meaning = self.reason.meaning();
+        write!(f, "{number} at {place}: {meaning}")
+    }
 }
 
 impl Reason {

@@ -44,38 +44,21 @@ pub fn size_in(members: ReplicaSet, n: u8) -> u32
     }
 }
 
-// Whether the set holds 2f + 1 replicas or more of a hall of n. Two such sets share f + 1.
-pub fn is_quorum(members: ReplicaSet, n: u8) -> bool
-    ensures value { result ≡ nat_le (quorum n) (count 16 (has members)) }
+// Whether so many replicas are 2f + 1 or more of a hall of n. Two such sets share f + 1.
+pub fn is_quorum(many: u32, n: u8) -> bool
+    ensures value { result ≡ nat_le (quorum n) many }
     ensures meet { QuorumsMeet }
     ensures honest { HonestPart }
 {
-    size(members) >= quorum_size(n)
+    many >= quorum_size(n)
 }
 
-// Whether the set holds f + 1 replicas or more of a hall of n, so that one of them is honest.
-pub fn has_honest(members: ReplicaSet, n: u8) -> bool
-    ensures value { result ≡ nat_le (beyond_faults n) (count 16 (has members)) }
+// Whether so many replicas are f + 1 or more of a hall of n, so that one of them is honest.
+pub fn has_honest(many: u32, n: u8) -> bool
+    ensures value { result ≡ nat_le (beyond_faults n) many }
     ensures honest { HonestAmong }
 {
-    size(members) >= honest_size(n)
-}
-
-// Whether the set holds 2f + 1 replicas or more of a hall of n, of its replicas alone. Two such sets share f + 1.
-pub fn is_quorum_in(members: ReplicaSet, n: u8) -> bool
-    ensures value { result ≡ nat_le (quorum n) (count n (has members)) }
-    ensures meet { QuorumsMeet }
-    ensures honest { HonestPart }
-{
-    size_in(members, n) >= quorum_size(n)
-}
-
-// Whether the set holds f + 1 replicas or more of a hall of n, of its replicas alone, so that one of them is honest.
-pub fn has_honest_in(members: ReplicaSet, n: u8) -> bool
-    ensures value { result ≡ nat_le (beyond_faults n) (count n (has members)) }
-    ensures honest { HonestAmong }
-{
-    size_in(members, n) >= honest_size(n)
+    many >= honest_size(n)
 }
 
 // The bytes of a set, the most significant first.

@@ -1,7 +1,8 @@
 -- Clearing a table row by row. Assumes nothing.
 use Rattle.std.proofs.Common.{◌≡◌, ℕ, zero, suc, ◌+◌, ◌<◌, true, List, [], ◌∷◌, ◌++◌, length, get_or, drop, set, replicate, None, refl, ap, ◌∙◌, ap₂, add-one, arith}
 use Rattle.messages.specs.Reading.{Syntax}
-use Rattle.slots.specs.Places.{Rows, all_places}
+use Rattle.sheets.specs.Holds.{Rows}
+use Rattle.slots.specs.Places.{all_places}
 use Rattle.slots.specs.Steps.{cleared}
 use Rattle.broadcast.specs.Calls.{Fresh, fits_hall, Opened}
 use Rattle.slots.specs.declared.slot.Slot.{Slot}

@@ -15,13 +15,13 @@ use Rattle.messages.specs.declared.message.Phase.TheVariants.{Send, Echo, Ready}
 use Rattle.messages.specs.Reading.{Syntax, Placed, reading}
 use Rattle.messages.specs.Tags.{phase_tag}
 use Rattle.messages.specs.Writing.{written}
-use Rattle.sheets.specs.Holds.{holds}
-use Rattle.slots.specs.Places.{Rows, place, sheet_of}
+use Rattle.sheets.specs.Holds.{Rows, holds}
+use Rattle.slots.specs.Places.{place, sheet_of}
 use Rattle.slots.specs.Steps.{Slots, next, go_on, settled, delivered_sheet_lem}
 use Rattle.broadcast.specs.Runs.{offer, hear, upd, Run, opening, calling}
 use Rattle.broadcast.specs.Calls.{Running, Holding, sizes_ok, may_send, hear_answer, if_new, taken, hear_after, offer_after, Said, Opened, Allowed, replicas}
-use Rattle.broadcast.specs.declared.hear.Heard.{Heard}
-use Rattle.broadcast.specs.declared.hear.Heard.TheVariants.{New, Known}
+use Rattle.basis.specs.declared.heard.Heard.{Heard}
+use Rattle.basis.specs.declared.heard.Heard.TheVariants.{New, Known}
 use Rattle.broadcast.specs.Claims.{RowLaws}
 use Rattle.broadcast.proofs.Tables.{none_some, some_inj, some_holds, noted_here}
 use Rattle.slots.proofs.Positions.{place_within}

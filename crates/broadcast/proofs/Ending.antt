@@ -2,7 +2,8 @@
 use Rattle.std.proofs.Common.{◌≡◌, ℕ, zero, suc, ◌+◌, ◌<◌, ◌≤◌, Bool, ◌⊎◌, List, length, Some, None, Option, sym, refl, ap, ◌∙◌, subst, inl, inr, ⊎_elim, arith, length-set}
 use Rattle.std.specs.Option.{option_map}
 use Rattle.messages.specs.declared.message.Phase.TheVariants.{Echo, Ready}
-use Rattle.slots.specs.Places.{Rows, all_places, or_else}
+use Rattle.sheets.specs.Holds.{Rows}
+use Rattle.slots.specs.Places.{all_places, or_else}
 use Rattle.slots.specs.Steps.{Slots, noted, echo_due, ready_due, delivery_due, delivered_by, next, go_on, settled}
 use Rattle.broadcast.specs.Claims.{RowLaws, StepsEnd}
 use Rattle.broadcast.proofs.Tables.{noted_here}

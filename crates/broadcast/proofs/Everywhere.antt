@@ -7,8 +7,8 @@ use Rattle.basis.proofs.Counts.{count_both, count_le, count_not, one_honest, hon
 use Rattle.basis.proofs.Totals.{count_below}
 use Rattle.messages.specs.declared.message.Phase.{Phase}
 use Rattle.messages.specs.declared.message.Phase.TheVariants.{Send, Echo, Ready}
-use Rattle.sheets.specs.Holds.{holds}
-use Rattle.slots.specs.Places.{Rows, sheet_of}
+use Rattle.sheets.specs.Holds.{Rows, holds}
+use Rattle.slots.specs.Places.{sheet_of}
 use Rattle.slots.specs.Steps.{Slots, delivered_sheet_lem}
 use Rattle.broadcast.specs.Calls.{may_send}
 use Rattle.broadcast.proofs.Tables.{holds_some, some_holds, none_some, some_inj}

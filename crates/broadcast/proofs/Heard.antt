@@ -5,7 +5,7 @@ use Rattle.messages.specs.Reading.{Syntax, Placed, reading, Lawful, placed, Exac
 use Rattle.messages.specs.declared.message.Message.{Message}
 use Rattle.messages.specs.declared.message.Message.TheVariants.{Sheet, Bit, Set, Share}
 use Rattle.messages.specs.declared.message.Phase.{Phase}
-use Rattle.slots.specs.Places.{Rows}
+use Rattle.sheets.specs.Holds.{Rows}
 use Rattle.slots.specs.Steps.{Slots, settled}
 use Rattle.broadcast.specs.Calls.{looked}
 

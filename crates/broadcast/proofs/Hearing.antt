@@ -11,11 +11,12 @@ use Rattle.messages.specs.Writing.{written}
 use Rattle.messages.specs.Reading.{Syntax, Placed, and_then, reading, Lawful, placed, Exact}
 use Rattle.messages.proofs.Fit.{exact}
 use Rattle.messages.proofs.Lists.{passed}
-use Rattle.slots.specs.Places.{Rows, recorded}
+use Rattle.sheets.specs.Holds.{Rows}
+use Rattle.slots.specs.Places.{recorded}
 use Rattle.slots.specs.Steps.{Slots}
 use Rattle.broadcast.specs.Calls.{Holding, sizes_ok, may_send, compared, taking, hear_answer, Said}
-use Rattle.broadcast.specs.declared.hear.Heard.{Heard}
-use Rattle.broadcast.specs.declared.hear.Heard.TheVariants.{New, Known}
+use Rattle.basis.specs.declared.heard.Heard.{Heard}
+use Rattle.basis.specs.declared.heard.Heard.TheVariants.{New, Known}
 use Rattle.broadcast.specs.Claims.{RowLaws}
 use Rattle.broadcast.proofs.Tables.{other_not, same_bytes, bytes_same}
 

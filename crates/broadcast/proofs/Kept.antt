@@ -6,8 +6,7 @@ use Rattle.basis.specs.Halls.{faults, quorum}
 use Rattle.basis.proofs.Counts.{one_honest}
 use Rattle.messages.specs.declared.message.Phase.{Phase}
 use Rattle.messages.specs.declared.message.Phase.TheVariants.{Echo, Ready}
-use Rattle.sheets.specs.Holds.{holds}
-use Rattle.slots.specs.Places.{Rows}
+use Rattle.sheets.specs.Holds.{Rows, holds}
 use Rattle.slots.specs.Steps.{Slots}
 use Rattle.broadcast.specs.Calls.{may_send}
 use Rattle.broadcast.proofs.Tables.{other_not, holds_some, none_some}

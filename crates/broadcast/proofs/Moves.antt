@@ -7,8 +7,8 @@ use Rattle.basis.specs.Halls.{quorum, beyond_faults}
 use Rattle.basis.proofs.Totals.{count_below}
 use Rattle.messages.specs.declared.message.Phase.{Phase}
 use Rattle.messages.specs.declared.message.Phase.TheVariants.{Send, Echo, Ready}
-use Rattle.sheets.specs.Holds.{holds}
-use Rattle.slots.specs.Places.{Rows, all_places, place, recorded, tally}
+use Rattle.sheets.specs.Holds.{Rows, holds}
+use Rattle.slots.specs.Places.{all_places, place, recorded, tally}
 use Rattle.slots.specs.Steps.{Slots, cleared, noted, delivered_by}
 use Rattle.broadcast.specs.Calls.{may_send}
 use Rattle.broadcast.specs.Claims.{RowLaws}

@@ -10,7 +10,8 @@ use Rattle.messages.specs.declared.message.Phase.TheVariants.{Send}
 use Rattle.messages.specs.Reading.{Syntax, reading}
 use Rattle.messages.specs.Writing.{written}
 use Rattle.slots.proofs.Positions.{place_within}
-use Rattle.slots.specs.Places.{Rows, place}
+use Rattle.sheets.specs.Holds.{Rows}
+use Rattle.slots.specs.Places.{place}
 use Rattle.slots.specs.Steps.{Slots}
 use Rattle.broadcast.specs.Runs.{Call, offer, hear, look, ask, close, upd, Authentic, Run, opening, calling, Offered}
 use Rattle.broadcast.specs.Calls.{Holding, sizes_ok, looked, Said, Opened, Allowed, call_after, replicas}

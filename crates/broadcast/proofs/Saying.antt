@@ -3,7 +3,8 @@ use Rattle.std.proofs.Common.{◌≡◌, ℕ, zero, suc, ◌+◌, ◌<◌, List,
 use Rattle.std.proofs.lemmas.Bool.{cases_eq}
 use Rattle.messages.specs.declared.message.Message.{Message}
 use Rattle.messages.specs.declared.message.Phase.{Phase}
-use Rattle.slots.specs.Places.{Rows, or_else}
+use Rattle.sheets.specs.Holds.{Rows}
+use Rattle.slots.specs.Places.{or_else}
 use Rattle.broadcast.specs.Saying.{said_message_lem, at_or_after, earliest}
 
 module _ {R : Type 0} (rows : Rows R) (n own : ℕ) (ps : List R) (ph : Phase) (from : ℕ) where

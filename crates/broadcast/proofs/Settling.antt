@@ -8,8 +8,8 @@ use Rattle.basis.proofs.Counts.{count_some}
 use Rattle.messages.specs.declared.message.Phase.{Phase}
 use Rattle.messages.specs.declared.message.Phase.TheVariants.{Send, Echo, Ready}
 use Rattle.messages.specs.Reading.{Syntax}
-use Rattle.sheets.specs.Holds.{holds}
-use Rattle.slots.specs.Places.{Rows, or_else, reaches, leader, sheet_of}
+use Rattle.sheets.specs.Holds.{Rows, holds}
+use Rattle.slots.specs.Places.{or_else, reaches, leader, sheet_of}
 use Rattle.slots.specs.Steps.{Slots, unless, noted, echo_due, ready_cause, ready_due, delivery_due, delivered_by, next, go_on, settled}
 use Rattle.broadcast.specs.Calls.{looked}
 use Rattle.broadcast.specs.Claims.{RowLaws}

@@ -7,9 +7,9 @@ use Rattle.basis.specs.Bytes.{Octets}
 use Rattle.basis.proofs.Counts.{count_some}
 use Rattle.messages.specs.declared.message.Phase.{Phase}
 use Rattle.messages.specs.declared.message.Phase.TheVariants.{Send, Echo, Ready}
-use Rattle.sheets.specs.Holds.{holds}
+use Rattle.sheets.specs.Holds.{Rows, holds}
 use Rattle.slots.proofs.Positions.{place_within}
-use Rattle.slots.specs.Places.{Rows, slot_places, all_places, place, recorded, tally, reaches, backed, leader, sheet_of, or_else}
+use Rattle.slots.specs.Places.{slot_places, all_places, place, recorded, tally, reaches, backed, leader, sheet_of, or_else}
 use Rattle.slots.specs.Steps.{Slots, noted}
 use Rattle.broadcast.specs.Calls.{may_send}
 use Rattle.broadcast.specs.Claims.{RowLaws}

@@ -7,11 +7,12 @@ use Rattle.messages.specs.declared.message.Phase.{Phase}
 use Rattle.messages.specs.declared.message.Phase.TheVariants.{Send, Echo, Ready}
 use Rattle.messages.specs.Reading.{Syntax, reading}
 use Rattle.slots.proofs.Positions.{place_within}
-use Rattle.slots.specs.Places.{Rows, place}
+use Rattle.sheets.specs.Holds.{Rows}
+use Rattle.slots.specs.Places.{place}
 use Rattle.slots.specs.Steps.{Slots}
 use Rattle.broadcast.specs.Calls.{Life, Fresh, Running, Holding, sizes_ok, hear_answer, taken, if_new, hear_after, offer_after, look_after, Opened}
-use Rattle.broadcast.specs.declared.hear.Heard.{Heard}
-use Rattle.broadcast.specs.declared.hear.Heard.TheVariants.{New, Known}
+use Rattle.basis.specs.declared.heard.Heard.{Heard}
+use Rattle.basis.specs.declared.heard.Heard.TheVariants.{New, Known}
 use Rattle.broadcast.specs.Claims.{RowLaws}
 use Rattle.broadcast.proofs.Tables.{none_some, some_inj, noted_here}
 use Rattle.broadcast.proofs.Moves.{at, Sound, Grows, Moves, moves_none, moves_on, note_moves}

@@ -9,9 +9,10 @@ use Rattle.messages.specs.declared.message.Phase.{Phase}
 use Rattle.messages.specs.declared.message.Phase.TheVariants.{Send, Echo, Ready}
 use Rattle.messages.specs.Writing.{written}
 use Rattle.messages.specs.Reading.{Syntax, Placed, and_then, reading}
-use Rattle.broadcast.specs.declared.hear.Heard.{Heard}
-use Rattle.broadcast.specs.declared.hear.Heard.TheVariants.{New, Known}
-use Rattle.slots.specs.Places.{Rows, all_places, recorded}
+use Rattle.basis.specs.declared.heard.Heard.{Heard}
+use Rattle.basis.specs.declared.heard.Heard.TheVariants.{New, Known}
+use Rattle.sheets.specs.Holds.{Rows}
+use Rattle.slots.specs.Places.{all_places, recorded}
 use Rattle.slots.specs.Steps.{Slots, cleared, noted, settled}
 use Rattle.broadcast.specs.Runs.{Call, offer, hear, look, ask, close, Node}
 

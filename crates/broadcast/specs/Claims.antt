@@ -6,12 +6,12 @@ use Rattle.basis.specs.Halls.{listed, faults}
 use Rattle.basis.specs.Refusals.{Refused}
 use Rattle.messages.specs.declared.message.Phase.TheVariants.{Send}
 use Rattle.messages.specs.Reading.{Syntax}
-use Rattle.sheets.specs.Holds.{if_lawful}
-use Rattle.slots.specs.Places.{Rows, all_places, recorded}
+use Rattle.sheets.specs.Holds.{Rows, if_lawful}
+use Rattle.slots.specs.Places.{all_places, recorded}
 use Rattle.slots.specs.Steps.{Slots, delivered_sheet_lem, next, settled}
 use Rattle.broadcast.specs.Runs.{Call, Authentic, Run, Offered}
 use Rattle.broadcast.specs.Calls.{Running, Holding, hear_answer, look_after, call_after, Said, Allowed, replicas}
-use Rattle.broadcast.specs.declared.hear.Heard.TheVariants.{Known}
+use Rattle.basis.specs.declared.heard.Heard.TheVariants.{Known}
 
 -- what the claims ask of a kind of sheet
 pub record RowLaws {R : Type 0} (rows : Rows R) (size : ℕ) (lawful : List ℕ → Bool) : Type 0 where

@@ -1,28 +1,15 @@
 -- What open checks of a replica's numbers, and what clearing a table leaves. Assumes nothing.
 use Rattle.std.specs.Prelude.{ℕ, cond, List, ◌++◌, length, drop, replicate, Ok, Err, Result, nat_lt}
-use Rattle.basis.specs.Halls.{listed}
 use Rattle.basis.specs.Refusals.{Refused, refused, told, number_of}
 use Rattle.basis.specs.declared.refusal.Refusal.{Refusal}
 use Rattle.messages.specs.Reading.{and_then}
-use Rattle.broadcast.specs.declared.member.Member.{Member}
+use Rattle.basis.specs.Members.{Numbers, member_made}
 use Rattle.broadcast.specs.declared.states.Fresh.{Fresh}
 use Rattle.broadcast.specs.declared.states.Running.{Running}
-use Rattle.slots.specs.Places.{Rows, all_places}
+use Rattle.sheets.specs.Holds.{Rows}
+use Rattle.slots.specs.Places.{all_places}
 use Rattle.slots.specs.Steps.{Slots, cleared}
 use Rattle.broadcast.specs.Calls.{fits_hall}
-
--- a hall size and a number
-pub record Numbers : Type 0 where
-  pub n : ℕ
-  pub own : ℕ
-
--- a listed size, else 2; a number below it, else 3
-abbrev pub member_made : ℕ → ℕ → Result Numbers Refused
-member_made n own = cond (listed n) (cond (nat_lt own n) (Ok (record { n = n; own = own })) (refused 3 0)) (refused 2 0)
-
-abbrev pub member_told : Result Member Refusal → Result Numbers Refused
-member_told (Ok m) = Ok (record { n = m.n; own = m.own })
-member_told (Err e) = told (Err e)
 
 -- the first rows are empty, and the others as they were
 abbrev pub cleared_to : {X : Type 0} → ℕ → X → List X → List X

@@ -7,7 +7,8 @@ use Rattle.messages.specs.declared.message.Message.{Message}
 use Rattle.messages.specs.declared.message.Message.TheVariants.{Sheet}
 use Rattle.messages.specs.declared.message.Phase.{Phase}
 use Rattle.messages.specs.declared.message.Phase.TheVariants.{Send, Echo, Ready}
-use Rattle.slots.specs.Places.{Rows, or_else, recorded}
+use Rattle.sheets.specs.Holds.{Rows}
+use Rattle.slots.specs.Places.{or_else, recorded}
 use Rattle.broadcast.specs.Calls.{may_send, Holding, sizes_ok}
 
 -- a message that stands at or after a position

@@ -3,7 +3,7 @@ use Rattle.std.specs.Prelude.{◌≡◌, ℕ, ◌<◌, Bool, List, pos, Some, na
 use Rattle.messages.specs.Reading.{Syntax}
 use Rattle.sheets.specs.declared.kinds.TakingsRow.{TakingsRow}
 use Rattle.sheets.specs.OfTakings.{amount_bytes, takings_lawful, takings_held, takings_row, takings_empty}
-use Rattle.slots.specs.Places.{Rows}
+use Rattle.sheets.specs.Holds.{Rows}
 use Rattle.slots.specs.Steps.{delivered_sheet_lem}
 use Rattle.broadcast.specs.Runs.{Run}
 use Rattle.broadcast.specs.Calls.{Holding, of_hall, replicas}

@@ -8,8 +8,8 @@ ghost use Rattle.slots.specs.Steps.{noted, settled};
 ghost use Rattle.broadcast.specs.Calls.{fits_hall, may_send, compared, sheet_answer, if_new, Running, hear_answer, hear_after, of_hall, large_enough, look_after};
 ghost use Rattle.messages.specs.Reading.{syntax};
 
-use crate::hear::Heard;
-use crate::member::Member;
+use basis::heard::Heard;
+use basis::member::Member;
 use basis::refusal::{Reason, Refusal};
 use messages::message::{Message, Phase};
 use messages::read::read;
@@ -64,8 +64,8 @@ pub fn hear_sheet<S: Sheet>(
     sheet: &S,
 ) -> Result<Heard, Refusal>
     requires { (slot < member.n) × ((sender < member.n) × ((member.n ≤ length records.old) × (all_places member.n ≤ length places.old))) }
-    ensures answer { told result ≡ sheet_answer (record { held = S.Sheet.held; row = S.Sheet.row; vacant = S.Sheet.vacant }) member.n sender (record { records = records.entry.now; places = places.old }) phase slot (S.Sheet.bytes sheet.now) }
-    ensures left { record { records = records.exit.now; places = places.new } ≡ if_new (sheet_answer (record { held = S.Sheet.held; row = S.Sheet.row; vacant = S.Sheet.vacant }) member.n sender (record { records = records.entry.now; places = places.old }) phase slot (S.Sheet.bytes sheet.now)) (settled (record { held = S.Sheet.held; row = S.Sheet.row; vacant = S.Sheet.vacant }) member.n member.own slot 3 (noted (record { held = S.Sheet.held; row = S.Sheet.row; vacant = S.Sheet.vacant }) member.n member.own slot phase sender (record { records = records.entry.now; places = places.old }) (S.Sheet.bytes sheet.now))) (record { records = records.entry.now; places = places.old }) }
+    ensures answer { told result ≡ sheet_answer S.Sheet.rows member.n sender (record { records = records.entry.now; places = places.old }) phase slot (S.Sheet.bytes sheet.now) }
+    ensures left { record { records = records.exit.now; places = places.new } ≡ if_new (sheet_answer S.Sheet.rows member.n sender (record { records = records.entry.now; places = places.old }) phase slot (S.Sheet.bytes sheet.now)) (settled S.Sheet.rows member.n member.own slot 3 (noted S.Sheet.rows member.n member.own slot phase sender (record { records = records.entry.now; places = places.old }) (S.Sheet.bytes sheet.now))) (record { records = records.entry.now; places = places.old }) }
 {
     if !may_come(phase, slot, sender) {
         return Err(Reason::SendNotFromSlot.at(3));
@@ -92,8 +92,8 @@ fn take_sheet<S: Sheet>(
     bytes: &[u8],
 ) -> Result<Heard, Refusal>
     requires { (slot < member.n) × ((sender < member.n) × ((member.n ≤ length records.old) × ((all_places member.n ≤ length places.old) × (S.Sheet.lawful bytes.now ≡ true)))) }
-    ensures answer { told result ≡ sheet_answer (record { held = S.Sheet.held; row = S.Sheet.row; vacant = S.Sheet.vacant }) member.n sender (record { records = records.entry.now; places = places.old }) phase slot bytes.now }
-    ensures left { record { records = records.exit.now; places = places.new } ≡ if_new (sheet_answer (record { held = S.Sheet.held; row = S.Sheet.row; vacant = S.Sheet.vacant }) member.n sender (record { records = records.entry.now; places = places.old }) phase slot bytes.now) (settled (record { held = S.Sheet.held; row = S.Sheet.row; vacant = S.Sheet.vacant }) member.n member.own slot 3 (noted (record { held = S.Sheet.held; row = S.Sheet.row; vacant = S.Sheet.vacant }) member.n member.own slot phase sender (record { records = records.entry.now; places = places.old }) bytes.now)) (record { records = records.entry.now; places = places.old }) }
+    ensures answer { told result ≡ sheet_answer S.Sheet.rows member.n sender (record { records = records.entry.now; places = places.old }) phase slot bytes.now }
+    ensures left { record { records = records.exit.now; places = places.new } ≡ if_new (sheet_answer S.Sheet.rows member.n sender (record { records = records.entry.now; places = places.old }) phase slot bytes.now) (settled S.Sheet.rows member.n member.own slot 3 (noted S.Sheet.rows member.n member.own slot phase sender (record { records = records.entry.now; places = places.old }) bytes.now)) (record { records = records.entry.now; places = places.old }) }
 {
     match S::decode(bytes) {
         Some(sheet) => hear_sheet(records, places, member, sender, phase, slot, &sheet),
@@ -119,8 +119,8 @@ pub fn hear<S: Sheet>(
     sender: u8,
     packet: &[u8],
 ) -> Result<Heard, Refusal>
-    ensures answer { told result ≡ hear_answer (record { held = S.Sheet.held; row = S.Sheet.row; vacant = S.Sheet.vacant }) (syntax S.Sheet.size S.Sheet.lawful (record { n = member.n; tags = tags; shares = shares })) member.own sender packet.now (record { life = Running; slots = (record { records = records.entry.now; places = places.old }); rounds = rounds }) }
-    ensures left { record { records = records.exit.now; places = places.new } ≡ (hear_after (record { held = S.Sheet.held; row = S.Sheet.row; vacant = S.Sheet.vacant }) (syntax S.Sheet.size S.Sheet.lawful (record { n = member.n; tags = tags; shares = shares })) member.own sender packet.now (record { life = Running; slots = (record { records = records.entry.now; places = places.old }); rounds = rounds })).slots }
+    ensures answer { told result ≡ hear_answer S.Sheet.rows (syntax S.Sheet.LEN S.Sheet.lawful (record { n = member.n; tags = tags; shares = shares })) member.own sender packet.now (record { life = Running; slots = (record { records = records.entry.now; places = places.old }); rounds = rounds }) }
+    ensures left { record { records = records.exit.now; places = places.new } ≡ (hear_after S.Sheet.rows (syntax S.Sheet.LEN S.Sheet.lawful (record { n = member.n; tags = tags; shares = shares })) member.own sender packet.now (record { life = Running; slots = (record { records = records.entry.now; places = places.old }); rounds = rounds })).slots }
 {
     if !are_large_enough(member.n, records.len(), rounds, places.len()) {
         return Err(Reason::TablesTooSmall.at(0));
@@ -154,8 +154,8 @@ pub fn look<S: Sheet>(
     places: &mut [S::Row],
     member: Member,
 ) -> Result<(), Refusal>
-    ensures answer { told result ≡ large_enough (of_hall member.n S.Sheet.size S.Sheet.lawful) (record { life = Running; slots = (record { records = records.entry.now; places = places.old }); rounds = rounds }) }
-    ensures left { record { records = records.exit.now; places = places.new } ≡ (look_after (record { held = S.Sheet.held; row = S.Sheet.row; vacant = S.Sheet.vacant }) (of_hall member.n S.Sheet.size S.Sheet.lawful) member.own (record { life = Running; slots = (record { records = records.entry.now; places = places.old }); rounds = rounds })).slots }
+    ensures answer { told result ≡ large_enough (of_hall member.n S.Sheet.LEN S.Sheet.lawful) (record { life = Running; slots = (record { records = records.entry.now; places = places.old }); rounds = rounds }) }
+    ensures left { record { records = records.exit.now; places = places.new } ≡ (look_after S.Sheet.rows (of_hall member.n S.Sheet.LEN S.Sheet.lawful) member.own (record { life = Running; slots = (record { records = records.entry.now; places = places.old }); rounds = rounds })).slots }
 {
     if !are_large_enough(member.n, records.len(), rounds, places.len()) {
         return Err(Reason::TablesTooSmall.at(0));

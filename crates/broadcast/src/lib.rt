@@ -2,8 +2,6 @@
 #![tactic(auto)]
 
 pub mod calls;
-pub mod hear;
-pub mod member;
 pub mod open;
 pub mod say;
 pub mod states;

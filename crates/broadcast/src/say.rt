@@ -8,7 +8,7 @@ ghost use Rattle.broadcast.specs.Calls.{Running};
 ghost use Rattle.broadcast.specs.Saying.{said_message_lem, at_or_after, earliest, next_said, say_answer, say_output};
 
 use crate::calls::{are_large_enough, may_come};
-use crate::member::Member;
+use basis::member::Member;
 use basis::refusal::{Reason, Refusal};
 use messages::message::{Message, Phase};
 use sheets::sheet::Sheet;
@@ -23,7 +23,7 @@ fn said_message<S: Sheet>(
     slot: u8,
 ) -> Option<Message<S>>
     requires { (slot < member.n) × (all_places member.n ≤ length places.now) }
-    ensures { option_map (on_sheet S.Sheet.bytes) result ≡ said_message_lem (record { held = S.Sheet.held; row = S.Sheet.row; vacant = S.Sheet.vacant }) member.n member.own places.now phase slot }
+    ensures { option_map (on_sheet S.Sheet.bytes) result ≡ said_message_lem S.Sheet.rows member.n member.own places.now phase slot }
 {
     if !may_come(phase, slot, member.own) {
         return None;
@@ -41,7 +41,7 @@ fn message_from<S: Sheet>(
     from: u32,
 ) -> Option<Message<S>>
     requires { (slot < member.n) × (all_places member.n ≤ length places.now) }
-    ensures { option_map (on_sheet S.Sheet.bytes) result ≡ at_or_after from (said_message_lem (record { held = S.Sheet.held; row = S.Sheet.row; vacant = S.Sheet.vacant }) member.n member.own places.now phase slot) }
+    ensures { option_map (on_sheet S.Sheet.bytes) result ≡ at_or_after from (said_message_lem S.Sheet.rows member.n member.own places.now phase slot) }
 {
     let message = said_message(places, member, phase, slot)?;
     if message.position() < from {
@@ -58,7 +58,7 @@ fn earliest_in<S: Sheet>(
     from: u32,
 ) -> Option<Message<S>>
     requires { all_places member.n ≤ length places.now }
-    ensures { option_map (on_sheet S.Sheet.bytes) result ≡ earliest (record { held = S.Sheet.held; row = S.Sheet.row; vacant = S.Sheet.vacant }) member.n member.own places.now phase from member.n }
+    ensures { option_map (on_sheet S.Sheet.bytes) result ≡ earliest S.Sheet.rows member.n member.own places.now phase from member.n }
 {
     for slot in 0..member.n {
         if let Some(message) = message_from(places, member, phase, slot, from) {
@@ -71,7 +71,7 @@ fn earliest_in<S: Sheet>(
 // The first sheet message said at or after a position.
 pub fn next_message<S: Sheet>(places: &[S::Row], member: Member, from: u32) -> Option<Message<S>>
     requires { all_places member.n ≤ length places.now }
-    ensures { option_map (on_sheet S.Sheet.bytes) result ≡ next_said (record { held = S.Sheet.held; row = S.Sheet.row; vacant = S.Sheet.vacant }) member.n member.own places.now from }
+    ensures { option_map (on_sheet S.Sheet.bytes) result ≡ next_said S.Sheet.rows member.n member.own places.now from }
 {
     if let Some(message) = earliest_in(places, member, Phase::Send, from) {
         return Some(message);
@@ -91,8 +91,8 @@ pub fn say<S: Sheet>(
     from: u32,
     out: &mut [u8],
 ) -> Result<Option<u32>, Refusal>
-    ensures answer { told result ≡ say_answer (record { held = S.Sheet.held; row = S.Sheet.row; vacant = S.Sheet.vacant }) member.n member.own from (record { life = Running; slots = record { records = records.entry.now; places = places.now }; rounds = rounds }) out.old }
-    ensures output { out.new ≡ say_output (record { held = S.Sheet.held; row = S.Sheet.row; vacant = S.Sheet.vacant }) member.n member.own from (record { life = Running; slots = record { records = records.entry.now; places = places.now }; rounds = rounds }) out.old }
+    ensures answer { told result ≡ say_answer S.Sheet.rows member.n member.own from (record { life = Running; slots = record { records = records.entry.now; places = places.now }; rounds = rounds }) out.old }
+    ensures output { out.new ≡ say_output S.Sheet.rows member.n member.own from (record { life = Running; slots = record { records = records.entry.now; places = places.now }; rounds = rounds }) out.old }
 {
     if !are_large_enough(member.n, records.len(), rounds, places.len()) {
         return Err(Reason::TablesTooSmall.at(0));

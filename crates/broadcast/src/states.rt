@@ -10,8 +10,8 @@ ghost use Rattle.slots.specs.Steps.{delivered_sheet_lem};
 ghost use Rattle.broadcast.specs.Opening.{fresh_told, open_answer, open_after, offer_told, offer_answer};
 
 use crate::calls::{are_large_enough, hear, look};
-use crate::hear::Heard;
-use crate::member::Member;
+use basis::heard::Heard;
+use basis::member::Member;
 use crate::open::clear_to;
 use crate::say::say;
 use basis::refusal::{Reason, Refusal};
@@ -46,8 +46,8 @@ impl Fresh {
         places: &mut [S::Row],
     ) -> Result<Fresh, Refusal>
         ensures answer { fresh_told result ≡ open_answer n own (length records.old) rounds (length places.old) }
-        ensures left { record { records = records.exit.now; places = places.new } ≡ open_after (record { held = S.Sheet.held; row = S.Sheet.row; vacant = S.Sheet.vacant }) n own rounds (record { records = records.entry.now; places = places.old }) }
-        ensures opened { OnOk result (Opened (record { held = S.Sheet.held; row = S.Sheet.row; vacant = S.Sheet.vacant }) (of_hall n S.Sheet.size S.Sheet.lawful) (record { life = NotOffered; slots = record { records = records.exit.now; places = places.new }; rounds = rounds })) }
+        ensures left { record { records = records.exit.now; places = places.new } ≡ open_after S.Sheet.rows n own rounds (record { records = records.entry.now; places = places.old }) }
+        ensures opened { OnOk result (Opened S.Sheet.rows (of_hall n S.Sheet.LEN S.Sheet.lawful) (record { life = NotOffered; slots = record { records = records.exit.now; places = places.new }; rounds = rounds })) }
     {
         let member = Member::new(n, own)?;
         if !are_large_enough(n, records.len(), rounds, places.len()) {
@@ -67,7 +67,7 @@ impl Fresh {
         sheet: &S,
     ) -> Result<Running, (Fresh, Refusal)>
         ensures answer { offer_told result ≡ offer_answer self (length records.old) rounds (length places.old) }
-        ensures left { record { records = records.exit.now; places = places.new } ≡ (offer_after (record { held = S.Sheet.held; row = S.Sheet.row; vacant = S.Sheet.vacant }) (of_hall self.member.n S.Sheet.size S.Sheet.lawful) self.member.own (S.Sheet.bytes sheet.now) (record { life = NotOffered; slots = (record { records = records.entry.now; places = places.old }); rounds = rounds })).slots }
+        ensures left { record { records = records.exit.now; places = places.new } ≡ (offer_after S.Sheet.rows (of_hall self.member.n S.Sheet.LEN S.Sheet.lawful) self.member.own (S.Sheet.bytes sheet.now) (record { life = NotOffered; slots = (record { records = records.entry.now; places = places.old }); rounds = rounds })).slots }
     {
         if !are_large_enough(self.member.n, records.len(), rounds, places.len()) {
             return Err((self, Reason::TablesTooSmall.at(0)));
@@ -92,8 +92,8 @@ impl Running {
         sender: u8,
         packet: &[u8],
     ) -> Result<Heard, Refusal>
-        ensures answer { told result ≡ hear_answer (record { held = S.Sheet.held; row = S.Sheet.row; vacant = S.Sheet.vacant }) (syntax S.Sheet.size S.Sheet.lawful (record { n = self.now.member.n; tags = tags; shares = shares })) self.now.member.own sender packet.now (record { life = HasOffered; slots = (record { records = records.entry.now; places = places.old }); rounds = rounds }) }
-        ensures left { record { records = records.exit.now; places = places.new } ≡ (hear_after (record { held = S.Sheet.held; row = S.Sheet.row; vacant = S.Sheet.vacant }) (syntax S.Sheet.size S.Sheet.lawful (record { n = self.now.member.n; tags = tags; shares = shares })) self.now.member.own sender packet.now (record { life = HasOffered; slots = (record { records = records.entry.now; places = places.old }); rounds = rounds })).slots }
+        ensures answer { told result ≡ hear_answer S.Sheet.rows (syntax S.Sheet.LEN S.Sheet.lawful (record { n = self.now.member.n; tags = tags; shares = shares })) self.now.member.own sender packet.now (record { life = HasOffered; slots = (record { records = records.entry.now; places = places.old }); rounds = rounds }) }
+        ensures left { record { records = records.exit.now; places = places.new } ≡ (hear_after S.Sheet.rows (syntax S.Sheet.LEN S.Sheet.lawful (record { n = self.now.member.n; tags = tags; shares = shares })) self.now.member.own sender packet.now (record { life = HasOffered; slots = (record { records = records.entry.now; places = places.old }); rounds = rounds })).slots }
     {
         hear::<S>(
             records,
@@ -114,9 +114,9 @@ impl Running {
         rounds: usize,
         places: &mut [S::Row],
     ) -> Result<(), Refusal>
-        ensures answer { told result ≡ large_enough (of_hall self.now.member.n S.Sheet.size S.Sheet.lawful) (record { life = HasOffered; slots = (record { records = records.entry.now; places = places.old }); rounds = rounds }) }
-        ensures left { record { records = records.exit.now; places = places.new } ≡ (look_after (record { held = S.Sheet.held; row = S.Sheet.row; vacant = S.Sheet.vacant }) (of_hall self.now.member.n S.Sheet.size S.Sheet.lawful) self.now.member.own (record { life = HasOffered; slots = (record { records = records.entry.now; places = places.old }); rounds = rounds })).slots }
-        ensures ends { StepsEnd (record { held = S.Sheet.held; row = S.Sheet.row; vacant = S.Sheet.vacant }) }
+        ensures answer { told result ≡ large_enough (of_hall self.now.member.n S.Sheet.LEN S.Sheet.lawful) (record { life = HasOffered; slots = (record { records = records.entry.now; places = places.old }); rounds = rounds }) }
+        ensures left { record { records = records.exit.now; places = places.new } ≡ (look_after S.Sheet.rows (of_hall self.now.member.n S.Sheet.LEN S.Sheet.lawful) self.now.member.own (record { life = HasOffered; slots = (record { records = records.entry.now; places = places.old }); rounds = rounds })).slots }
+        ensures ends { StepsEnd S.Sheet.rows }
     {
         look::<S>(records, rounds, places, self.member)
     }
@@ -130,8 +130,8 @@ impl Running {
         from: u32,
         out: &mut [u8],
     ) -> Result<Option<u32>, Refusal>
-        ensures answer { told result ≡ say_answer (record { held = S.Sheet.held; row = S.Sheet.row; vacant = S.Sheet.vacant }) self.now.member.n self.now.member.own from (record { life = HasOffered; slots = (record { records = records.entry.now; places = places.now }); rounds = rounds }) out.old }
-        ensures output { out.new ≡ say_output (record { held = S.Sheet.held; row = S.Sheet.row; vacant = S.Sheet.vacant }) self.now.member.n self.now.member.own from (record { life = HasOffered; slots = (record { records = records.entry.now; places = places.now }); rounds = rounds }) out.old }
+        ensures answer { told result ≡ say_answer S.Sheet.rows self.now.member.n self.now.member.own from (record { life = HasOffered; slots = (record { records = records.entry.now; places = places.now }); rounds = rounds }) out.old }
+        ensures output { out.new ≡ say_output S.Sheet.rows self.now.member.n self.now.member.own from (record { life = HasOffered; slots = (record { records = records.entry.now; places = places.now }); rounds = rounds }) out.old }
     {
         say::<S>(records, rounds, places, self.member, from, out)
     }
@@ -139,8 +139,8 @@ impl Running {
     // The sheet that is delivered for a slot, if any. In every run honest replicas deliver equal sheets for a slot, an
     // honest replica's as it was offered, and at rest all deliver what one has.
     pub fn delivered<S: Sheet>(&self, records: &[Slot], places: &[S::Row], slot: u8) -> Option<S>
-        ensures value { option_map S.Sheet.bytes result ≡ delivered_sheet_lem (record { held = S.Sheet.held; row = S.Sheet.row; vacant = S.Sheet.vacant }) self.now.member.n self.now.member.own slot (record { records = records.entry.now; places = places.now }) }
-        ensures runs { BroadcastHolds (record { held = S.Sheet.held; row = S.Sheet.row; vacant = S.Sheet.vacant }) S.Sheet.size S.Sheet.lawful }
+        ensures value { option_map S.Sheet.bytes result ≡ delivered_sheet_lem S.Sheet.rows self.now.member.n self.now.member.own slot (record { records = records.entry.now; places = places.now }) }
+        ensures runs { BroadcastHolds S.Sheet.rows S.Sheet.LEN S.Sheet.lawful }
     {
         delivered_sheet(records, places, self.member.n, self.member.own, slot)
     }

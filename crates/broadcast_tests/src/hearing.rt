@@ -1,5 +1,5 @@
 // What a replica of four answers to packets, one after the other.
-use broadcast::hear::Heard;
+use basis::heard::Heard;
 use broadcast::states::{Fresh, Running};
 use messages::tags::VoteTags;
 use sheets::kinds::{Takings, TakingsRow};

@@ -8,7 +8,7 @@ use Rattle.sheets.specs.OfTakings.{takings_lawful}
 use Rattle.sheets.specs.declared.kinds.TakingsRow.{TakingsRow}
 use Rattle.broadcast.specs.Calls.{hear_answer}
 use Rattle.broadcast.specs.Calls as calls
-use Rattle.broadcast.specs.declared.hear.Heard.{Heard}
+use Rattle.basis.specs.declared.heard.Heard.{Heard}
 use Rattle.slots.specs.declared.slot.Slot.{Slot}
 use Rattle.broadcast.specs.declared.states.Running.{Running}
 use Rattle.cast.specs.States.{takings_rows, as_problem, heard_of}

@@ -5,11 +5,11 @@ use Rattle.messages.specs.Reading.{syntax}
 use Rattle.messages.specs.Tags.{basic_tags}
 use Rattle.sheets.specs.OfTakings.{takings_held, takings_row, takings_empty, takings_lawful}
 use Rattle.sheets.specs.declared.kinds.TakingsRow.{TakingsRow}
-use Rattle.slots.specs.Places.{Rows}
+use Rattle.sheets.specs.Holds.{Rows}
 use Rattle.slots.specs.Steps.{Slots, delivered_sheet_lem}
 use Rattle.broadcast.specs.Calls.{of_hall, offer_after, hear_answer}
 use Rattle.broadcast.specs.Saying.{say_answer, say_output}
-use Rattle.broadcast.specs.declared.hear.Heard.{Heard}
+use Rattle.basis.specs.declared.heard.Heard.{Heard}
 use Rattle.broadcast.specs.Calls as calls
 use Rattle.cast.specs.declared.till.Fault.{Fault}
 use Rattle.cast.specs.declared.till.Fault.TheVariants as fault

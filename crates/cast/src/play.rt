@@ -3,7 +3,7 @@ ghost use Rattle.std.specs.Prelude.{◌≡◌, ◌+◌, ◌*◌};
 
 use crate::script::{Forgery, Offer};
 use crate::till::{Fault, Till};
-use broadcast::hear::Heard;
+use basis::heard::Heard;
 use messages::message::Message;
 use sheets::kinds::Takings;
 use std::alloc::Global;

@@ -4,7 +4,7 @@ use crate::script::{Amount, Command, Forgery, Offer, parse, phase_word};
 use crate::till::{Fault, Till};
 use anyhow::anyhow;
 use basis::refusal::Refusal;
-use broadcast::hear::Heard;
+use basis::heard::Heard;
 use sheets::kinds::Takings;
 use std::alloc::Global;
 use std::fmt;

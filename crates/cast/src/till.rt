@@ -6,7 +6,7 @@ ghost use Rattle.cast.specs.States.{is_fresh, is_running, offer_left, delivered_
 
 use crate::script::Amount;
 use basis::refusal::Refusal;
-use broadcast::hear::Heard;
+use basis::heard::Heard;
 use broadcast::states::{Fresh, Running};
 use messages::tags::VoteTags;
 use sheets::kinds::{Takings, TakingsRow};

@@ -214,6 +214,12 @@ exact y sized short = record { back = back y sized short; only = λ xs octets p 
 abbrev sheet_reading : (List ℕ → Bool) → List ℕ → Result (Message Placed) Refused
 sheet_reading lawful xs = cond (lawful (drop 4 xs)) (Ok (Sheet (phase_of_lem (get_or xs 0 0)) (get_or xs 3 0) (record { at = 4; bytes = drop 4 xs }))) (refused 11 4)
 
+-- a tag tells its phase
+pub phase_known : (ph : Phase) (t : ℕ) → phase_tag ph ≡ t → ph ≡ phase_of_lem t
+phase_known Send t e = ap phase_of_lem e
+phase_known Echo t e = ap phase_of_lem e
+phase_known Ready t e = ap phase_of_lem e
+
 pub unlawful_sheet : (lawful : List ℕ → Bool) (xs : List ℕ) (e : Refusal) → e ≡ refusal ValueNotLawful 4 → lawful (drop 4 xs) ≡ false → told (Err e) ≡ sheet_reading lawful xs
 unlawful_sheet lawful xs e q law = rw (q, law)
 
@@ -228,18 +234,18 @@ pub head_passed : (y : Syntax) (xs : List ℕ) (s : Shape) (r : Result (Message 
 head_passed y xs s r h e = e ∙ ap (λ r. and_then r (body_reading y xs)) h
 
 -- what writing a sheet message leaves: its head, its slot and its sheet, and the rest as it was
-pub sheet_written : (out e bs : List ℕ) (ph : Phase) (k len t slot : ℕ) → len ≡ length (written (Sheet ph k bs)) → t ≡ phase_tag ph → slot ≡ k → len ≤ length out
-    → e ≡ bs ++ drop (length bs) (take (length (headed out t ((len - 3) / 256 % 256) ((len - 3) % 256) slot) - 4) (drop 4 (headed out t ((len - 3) / 256 % 256) ((len - 3) % 256) slot)))
-    → put_mid 4 (length (headed out t ((len - 3) / 256 % 256) ((len - 3) % 256) slot) - 4) (headed out t ((len - 3) / 256 % 256) ((len - 3) % 256) slot) e ≡ write_output (written (Sheet ph k bs)) out
-sheet_written out e bs ph k len t slot l tq kq fits q =
+pub sheet_written : (out e bs : List ℕ) (ph : Phase) (k len t high low slot : ℕ) → len ≡ length (written (Sheet ph k bs)) → t ≡ phase_tag ph → high ≡ (len - 3) / 256 % 256 → low ≡ (len - 3) % 256 → slot ≡ k → len ≤ length out
+    → e ≡ bs ++ drop (length bs) (take (length (headed out t high low slot) - 4) (drop 4 (headed out t high low slot)))
+    → put_mid 4 (length (headed out t high low slot) - 4) (headed out t high low slot) e ≡ write_output (written (Sheet ph k bs)) out
+sheet_written out e bs ph k len t high low slot l tq hq lq kq fits q =
     let w = written (Sheet ph k bs) in
     let n : len - 3 ≡ length (k ∷ bs) = omega arith in
-    let a : (len - 3) / 256 % 256 ≡ length (k ∷ bs) / 256 % 256 = ap (λ x. x / 256 % 256) n in
-    let b : (len - 3) % 256 ≡ length (k ∷ bs) / 1 % 256 = omega arith in
+    let a : high ≡ length (k ∷ bs) / 256 % 256 = hq ∙ ap (λ x. x / 256 % 256) n in
+    let b : low ≡ length (k ∷ bs) / 1 % 256 = lq ∙ omega arith in
     let all : 4 + length bs ≡ length w = omega arith in
     let room : ltb (length out) (length w) ≡ false = le-ltb _ _ (omega arith) in
-    put_sheet out e bs t ((len - 3) / 256 % 256) ((len - 3) % 256) slot (length bs) (omega arith) q
-    ∙ ap₂ (λ x y. (x ∷ (len - 3) / 256 % 256 ∷ (len - 3) % 256 ∷ y ∷ bs) ++ drop (4 + length bs) out) tq kq
+    put_sheet out e bs t high low slot (length bs) (omega arith) q
+    ∙ ap₂ (λ x y. (x ∷ high ∷ low ∷ y ∷ bs) ++ drop (4 + length bs) out) tq kq
     ∙ ap₂ (λ x y. (phase_tag ph ∷ x ∷ y ∷ k ∷ bs) ++ drop (4 + length bs) out) a b
     ∙ ap (λ x. w ++ drop x out) all
     ∙ sym (cond-false (ltb (length out) (length w)) out (w ++ drop (length w) out) room)

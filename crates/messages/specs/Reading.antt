@@ -4,13 +4,14 @@ use Rattle.basis.specs.Bytes.{Octets}
 use Rattle.basis.specs.Refusals.{Refused, refused, told}
 use Rattle.basis.specs.declared.refusal.Refusal.{Refusal}
 use Rattle.messages.specs.declared.message.BitSet.{BitSet}
+use Rattle.messages.specs.declared.message.Kind.{Kind}
 use Rattle.messages.specs.declared.message.Message.{Message}
 use Rattle.messages.specs.declared.message.Message.TheVariants.{Sheet, Bit, Set, Share}
 use Rattle.messages.specs.declared.message.Part.{Part}
 use Rattle.messages.specs.declared.message.Shape.{Shape}
 use Rattle.messages.specs.declared.message.Shape.TheVariants as shape
 use Rattle.messages.specs.declared.tags.Format.{Format}
-use Rattle.messages.specs.Tags.{phase_of_lem, vote_of, bits_of, uses, is_set_tag, shape_at}
+use Rattle.messages.specs.Tags.{phase_of_lem, vote_of, bits_of, kind_shape, uses, is_set_tag, shape_at}
 use Rattle.messages.specs.Writing.{on_sheet, written, body_length, position}
 
 -- all that a reading depends on: the hall size, the sheets' length and which bytes are a sheet, the rule's tags, and
@@ -37,6 +38,11 @@ part_placed p = record { at = p.at; bytes = p.bytes.now }
 abbrev pub plain : Result (Message Part) Refusal → Result (Message Placed) Refused
 plain (Ok m) = Ok (on_sheet part_placed m)
 plain (Err e) = told (Err e)
+
+-- an answer with its kind by its shape
+abbrev pub kind_told : Result Kind Refusal → Result Shape Refused
+kind_told (Ok k) = Ok (kind_shape k)
+kind_told (Err e) = told (Err e)
 
 -- goes on where the checks so far have passed
 abbrev pub and_then : {X Y : Type 0} → Result X Refused → (X → Result Y Refused) → Result Y Refused

@@ -1,14 +1,17 @@
 -- Tags and the numbers of values. Assumes nothing.
-use Rattle.std.specs.Prelude.{ℕ, ◌-◌, ◌^◌, Bool, cond, ◌&&◌, ◌||◌, Some, None, Option, ◌==◌, bit_or, nat_le}
+use Rattle.std.specs.Prelude.{ℕ, ◌-◌, ◌^◌, Bool, cond, ◌&&◌, ◌||◌, Some, None, Option, Result, MatchResult, ◌≡◌, ◌==◌, bit_or, nat_le}
 use Rattle.basis.specs.Counts.{has}
 use Rattle.messages.specs.declared.message.BitSet.{BitSet}
 use Rattle.messages.specs.declared.message.BitSet.TheVariants.{Zero, One, Both}
+use Rattle.messages.specs.declared.message.Kind.{Kind}
+use Rattle.messages.specs.declared.message.Kind.TheVariants as kind
 use Rattle.messages.specs.declared.message.Phase.{Phase}
 use Rattle.messages.specs.declared.message.Phase.TheVariants.{Send, Echo, Ready}
 use Rattle.messages.specs.declared.message.Shape.{Shape}
 use Rattle.messages.specs.declared.message.Shape.TheVariants as shape
 use Rattle.messages.specs.declared.message.Vote.{Vote}
 use Rattle.messages.specs.declared.message.Vote.TheVariants.{First, Second}
+use Rattle.messages.specs.declared.tags.NoBitSet.{NoBitSet}
 use Rattle.messages.specs.declared.tags.VoteTags.{VoteTags}
 
 -- 0x10, 0x11 and 0x12
@@ -45,6 +48,10 @@ bits_number Both = 3
 abbrev pub bits_of : ℕ → Option BitSet
 bits_of x = cond (x == 1) (Some Zero) (cond (x == 2) (Some One) (cond (x == 3) (Some Both) None))
 
+-- a number is turned into the set that it names, and into no set where it names none
+abbrev pub NumbersBits : ℕ → Result BitSet NoBitSet → Type 0
+NumbersBits x r = MatchResult r (λ bits. bits_of x ≡ Some bits) (λ e. (bits_of x ≡ None) × (e.0 ≡ x))
+
 -- the tags of a rule: 0x20 and 0x21, and the tags of sets that its mask names
 abbrev pub uses : VoteTags → ℕ → Bool
 uses v t = (t == 32 || t == 33) || (is_set_tag t && has v.mask (t - 32))
@@ -63,3 +70,16 @@ shape_at used shares t =
     (cond (t == 32 || t == 33) (Some shape.Bit)
     (cond (is_set_tag t && used t) (Some shape.Set)
     (cond (t == share_tag && shares) (Some shape.Share) None)))
+
+-- a kind's tag and shape
+abbrev pub kind_tag : Kind → ℕ
+kind_tag (kind.Sheet phase) = phase_tag phase
+kind_tag (kind.Bit vote) = vote_tag vote
+kind_tag (kind.Set tag) = tag
+kind_tag kind.Share = share_tag
+
+abbrev pub kind_shape : Kind → Shape
+kind_shape (kind.Sheet phase) = shape.Sheet
+kind_shape (kind.Bit vote) = shape.Bit
+kind_shape (kind.Set tag) = shape.Set
+kind_shape kind.Share = shape.Share

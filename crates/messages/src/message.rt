@@ -1,30 +1,31 @@
 // What a message is. A sheet message holds a sheet to be written, or the part of a packet where one was read.
 
-// The three messages of the sheet broadcast.
+// The three messages of the sheet broadcast, with their tags.
 #[derive(Clone, Copy, PartialEq, Eq, Debug)]
 pub enum Phase {
-    Send,
-    Echo,
-    Ready,
+    Send = 0x10,
+    Echo = 0x11,
+    Ready = 0x12,
 }
 
-// The two votes that carry one bit.
+// The two votes that carry one bit, with their tags.
 #[derive(Clone, Copy, PartialEq, Eq, Debug)]
 pub enum Vote {
-    First,
-    Second,
+    First = 0x20,
+    Second = 0x21,
 }
 
-// A set of bits that is not empty.
+// A set of bits that is not empty, with its number in a message.
 #[derive(Clone, Copy, PartialEq, Eq, Debug)]
 pub enum BitSet {
-    Zero,
-    One,
-    Both,
+    Zero = 1,
+    One = 2,
+    Both = 3,
 }
 
-// A message with a sheet of type P. A slot is the place of one replica's sheet, and of the ballot on it.
-#[derive(Clone, Copy)]
+// A message with a sheet of type P. A slot is the place of one replica's sheet, and of the ballot on it. The tag of a
+// set is a number, since a round rule draws it from an open range.
+#[derive(Clone, Copy, PartialEq, Eq, Debug)]
 pub enum Message<P> {
     Sheet {
         phase: Phase,
@@ -51,7 +52,7 @@ pub enum Message<P> {
 }
 
 // A part of a packet, uncopied, with the place where it begins.
-#[derive(Clone, Copy)]
+#[derive(Clone, Copy, PartialEq, Eq, Debug)]
 pub struct Part<'a> {
     pub at: usize,
     pub bytes: &'a [u8],
@@ -63,5 +64,14 @@ pub enum Shape {
     Sheet,
     Bit,
     Set,
+    Share,
+}
+
+// What kind of message a tag begins.
+#[derive(Clone, Copy, PartialEq, Eq, Debug)]
+pub enum Kind {
+    Sheet(Phase),
+    Bit(Vote),
+    Set(u8),
     Share,
 }

@@ -1,10 +1,10 @@
 // Where a message stands among all that a replica may say.
 ghost use Rattle.std.specs.Prelude.{◌≡◌};
-ghost use Rattle.messages.specs.Writing.{tag_of, slot_of, round_of, value_of, position};
+ghost use Rattle.messages.specs.Tags.{kind_tag, kind_shape};
+ghost use Rattle.messages.specs.Writing.{tag_of, slot_of, round_of, value_of, shape_of_message, position};
 ghost use Rattle.messages.specs.Reading.{PositionsApart};
 
-use crate::message::Message;
-use crate::tags::SHARE;
+use crate::message::{Kind, Message};
 use basis::hall::SLOTS;
 
 // How many rounds a position counts for each slot, and how many values for each round.
@@ -13,25 +13,32 @@ const ROUNDS: u32 = 16;
 const VALUES: u32 = 256;
 
 impl<P> Message<P> {
+    pub fn kind(&self) -> Kind
+        ensures tag { kind_tag result ≡ tag_of self.now }
+        ensures shape { kind_shape result ≡ shape_of_message self.now }
+    {
+        match self {
+            Message::Sheet { phase, .. } => Kind::Sheet(*phase),
+            Message::Bit { vote, .. } => Kind::Bit(*vote),
+            Message::Set { tag, .. } => Kind::Set(*tag),
+            Message::Share { .. } => Kind::Share,
+        }
+    }
+
     pub fn tag(&self) -> u8
         ensures { result ≡ tag_of self.now }
     {
-        match self {
-            Message::Sheet { phase, .. } => phase.tag(),
-            Message::Bit { vote, .. } => vote.tag(),
-            Message::Set { tag, .. } => *tag,
-            Message::Share { .. } => SHARE,
-        }
+        self.kind().tag()
     }
 
     pub fn slot(&self) -> u8
         ensures { result ≡ slot_of self.now }
     {
         match self {
-            Message::Sheet { slot, .. } => *slot,
-            Message::Bit { slot, .. } => *slot,
-            Message::Set { slot, .. } => *slot,
-            Message::Share { slot, .. } => *slot,
+            Message::Sheet { slot, .. }
+            | Message::Bit { slot, .. }
+            | Message::Set { slot, .. }
+            | Message::Share { slot, .. } => *slot,
         }
     }
 
@@ -41,9 +48,9 @@ impl<P> Message<P> {
     {
         match self {
             Message::Sheet { .. } => 0,
-            Message::Bit { round, .. } => *round,
-            Message::Set { round, .. } => *round,
-            Message::Share { round, .. } => *round,
+            Message::Bit { round, .. }
+            | Message::Set { round, .. }
+            | Message::Share { round, .. } => *round,
         }
     }
 
@@ -54,7 +61,7 @@ impl<P> Message<P> {
         match self {
             Message::Sheet { .. } => 0,
             Message::Bit { bit, .. } => u8::from(*bit),
-            Message::Set { bits, .. } => bits.number(),
+            Message::Set { bits, .. } => u8::from(*bits),
             Message::Share { share, .. } => *share,
         }
     }

@@ -1,8 +1,9 @@
 // Tags: the first byte of a message says its shape.
-ghost use Rattle.std.specs.Prelude.{◌≡◌, ℕ, ◌+◌, ◌<◌, ◌≤◌, ◌&&◌, ◌||◌, ◌==◌};
-ghost use Rattle.messages.specs.Tags.{phase_tag, phase_of_lem, vote_tag, vote_of, bits_number, bits_of, uses, is_set_tag, shape_at, basic_tags, with_tag};
+ghost use Rattle.std.specs.Prelude.{◌≡◌, ℕ, ◌&&◌, ◌||◌, ◌==◌, IfSome};
+ghost use Rattle.std.specs.Option.{option_map};
+ghost use Rattle.messages.specs.Tags.{phase_tag, vote_tag, bits_number, NumbersBits, kind_shape, kind_tag, uses, is_set_tag, shape_at, basic_tags, with_tag};
 
-use crate::message::{BitSet, Phase, Shape, Vote};
+use crate::message::{BitSet, Kind, Phase, Shape, Vote};
 use basis::replicas::{contains, with};
 
 // The tag of a share.
@@ -10,13 +11,13 @@ pub const SHARE: u8 = 0x30;
 
 // The vote tags that a round rule uses: always 0x20 and 0x21, and those from 0x22 to 0x2F whose bit is set,
 // bit i from the lowest standing for tag 0x20 + i.
-#[derive(Clone, Copy)]
+#[derive(Clone, Copy, PartialEq, Eq, Debug)]
 pub struct VoteTags {
     mask: u16,
 }
 
 // What a reading depends on besides the kind of sheet: the hall size, the rule's tags, and whether the coin uses shares.
-#[derive(Clone, Copy)]
+#[derive(Clone, Copy, PartialEq, Eq, Debug)]
 pub struct Format {
     pub n: u8,
     pub tags: VoteTags,
@@ -57,16 +58,45 @@ impl VoteTags {
     }
 }
 
-// The shape of a message by its tag, or none where the tag is not used.
-pub fn shape_of(tag: u8, format: Format) -> Option<Shape>
-    ensures { result ≡ shape_at (uses format.tags) format.shares tag }
-{
-    match tag {
-        0x10..=0x12 => Some(Shape::Sheet),
-        0x20 | 0x21 => Some(Shape::Bit),
-        t @ 0x22..=0x2f if format.tags.includes(t) => Some(Shape::Set),
-        SHARE if format.shares => Some(Shape::Share),
-        _ => None,
+impl Kind {
+    // The kind by its tag, or none where the tag is not used.
+    pub fn of(tag: u8, format: Format) -> Option<Kind>
+        ensures shape { option_map kind_shape result ≡ shape_at (uses format.tags) format.shares tag }
+        ensures tag { IfSome result (λ k. kind_tag k ≡ tag) }
+    {
+        match tag {
+            0x10 => Some(Kind::Sheet(Phase::Send)),
+            0x11 => Some(Kind::Sheet(Phase::Echo)),
+            0x12 => Some(Kind::Sheet(Phase::Ready)),
+            0x20 => Some(Kind::Bit(Vote::First)),
+            0x21 => Some(Kind::Bit(Vote::Second)),
+            t @ 0x22..=0x2f if format.tags.includes(t) => Some(Kind::Set(t)),
+            SHARE if format.shares => Some(Kind::Share),
+            _ => None,
+        }
+    }
+
+    pub fn tag(self) -> u8
+        ensures { result ≡ kind_tag self }
+    {
+        match self {
+            Kind::Sheet(phase) => phase.tag(),
+            Kind::Bit(vote) => vote.tag(),
+            Kind::Set(tag) => tag,
+            Kind::Share => SHARE,
+        }
+    }
+
+    // How a message of the kind goes on after its tag and length.
+    pub fn shape(self) -> Shape
+        ensures { result ≡ kind_shape self }
+    {
+        match self {
+            Kind::Sheet(_) => Shape::Sheet,
+            Kind::Bit(_) => Shape::Bit,
+            Kind::Set(_) => Shape::Set,
+            Kind::Share => Shape::Share,
+        }
     }
 }
 
@@ -74,21 +104,7 @@ impl Phase {
     pub fn tag(self) -> u8
         ensures { result ≡ phase_tag self }
     {
-        match self {
-            Phase::Send => 0x10,
-            Phase::Echo => 0x11,
-            Phase::Ready => 0x12,
-        }
-    }
-
-    pub fn of(tag: u8) -> Phase
-        ensures { result ≡ phase_of_lem tag }
-    {
-        match tag {
-            0x10 => Phase::Send,
-            0x11 => Phase::Echo,
-            _ => Phase::Ready,
-        }
+        self as u8
     }
 }
 
@@ -96,42 +112,33 @@ impl Vote {
     pub fn tag(self) -> u8
         ensures { result ≡ vote_tag self }
     {
-        match self {
-            Vote::First => 0x20,
-            Vote::Second => 0x21,
-        }
-    }
-
-    pub fn of(tag: u8) -> Vote
-        ensures { result ≡ vote_of tag }
-    {
-        match tag {
-            0x20 => Vote::First,
-            _ => Vote::Second,
-        }
+        self as u8
     }
 }
 
-impl BitSet {
-    // 1 is {0}, 2 is {1}, 3 is both.
-    pub fn number(self) -> u8
-        ensures { result ≡ bits_number self }
-    {
-        match self {
-            BitSet::Zero => 1,
-            BitSet::One => 2,
-            BitSet::Both => 3,
-        }
-    }
+// A number that names no set of bits.
+#[derive(Clone, Copy, PartialEq, Eq, Debug)]
+pub struct NoBitSet(pub u8);
 
-    pub fn of(number: u8) -> Option<BitSet>
-        ensures { result ≡ bits_of number }
-    {
+impl From<BitSet> for u8 {
+    ghost from_gives = { λ bits r. r ≡ bits_number bits };
+
+    fn from(bits: BitSet) -> u8 {
+        bits as u8
+    }
+}
+
+impl TryFrom<u8> for BitSet {
+    type Error = NoBitSet;
+
+    ghost try_from_gives = { NumbersBits };
+
+    fn try_from(number: u8) -> Result<BitSet, NoBitSet> {
         match number {
-            1 => Some(BitSet::Zero),
-            2 => Some(BitSet::One),
-            3 => Some(BitSet::Both),
-            _ => None,
+            1 => Ok(BitSet::Zero),
+            2 => Ok(BitSet::One),
+            3 => Ok(BitSet::Both),
+            _ => Err(NoBitSet(number)),
         }
     }
 }

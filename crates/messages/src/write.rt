@@ -4,7 +4,7 @@ ghost use Rattle.basis.specs.Bytes.{be};
 ghost use Rattle.basis.specs.Refusals.{told};
 ghost use Rattle.messages.specs.Writing.{on_sheet, written, body, tag_of, body_length, shape_of_message, write_answer, write_output};
 
-use crate::message::{Message, Shape};
+use crate::message::Message;
 use crate::read::body_len;
 use basis::refusal::{Reason, Refusal};
 use sheets::sheet::Sheet;
@@ -12,25 +12,12 @@ use sheets::sheet::Sheet;
 // How many bytes stand before the body: the tag and the length.
 pub const HEAD: usize = 3;
 
-impl<P> Message<P> {
-    pub fn shape(&self) -> Shape
-        ensures { result ≡ shape_of_message self.now }
-    {
-        match self {
-            Message::Sheet { .. } => Shape::Sheet,
-            Message::Bit { .. } => Shape::Bit,
-            Message::Set { .. } => Shape::Set,
-            Message::Share { .. } => Shape::Share,
-        }
-    }
-}
-
 impl<S: Sheet> Message<S> {
     // How many bytes the message is written in.
     pub fn written_len(&self) -> usize
         ensures { result ≡ length (written (on_sheet S.Sheet.bytes self.now)) }
     {
-        HEAD + body_len::<S>(self.shape())
+        HEAD + body_len::<S>(self.kind().shape())
     }
 
     // Writes the message at the start of the output and answers its length; the other bytes stay. Refused where the
@@ -43,9 +30,10 @@ impl<S: Sheet> Message<S> {
         if out.len() < len {
             return Err(Reason::OutputTooShort.at(0));
         }
+        let [high, low] = ((len - HEAD) as u16).to_be_bytes();
         out[0] = self.tag();
-        out[1] = ((len - HEAD) / 256 % 256) as u8;
-        out[2] = ((len - HEAD) % 256) as u8;
+        out[1] = high;
+        out[2] = low;
         out[3] = self.slot();
         match self {
             Message::Sheet { sheet, .. } => sheet.encode(&mut out[4..]),

@@ -1,6 +1,7 @@
 -- Labels: their bytes, and what a row holds. Assumes nothing.
 use Rattle.std.specs.Prelude.{ℕ, Bool, true, false, cond, List, [], ◌∷◌, ◌++◌, length, take, drop, Some, None, Option, ◌==◌, slice_index}
 use Rattle.basis.specs.Bytes.{be, value}
+use Rattle.sheets.specs.Holds.{Rows}
 use Rattle.sheets.specs.declared.kinds.Label.{Label}
 use Rattle.sheets.specs.declared.kinds.LabelRow.{LabelRow}
 
@@ -30,3 +31,7 @@ label_row s = record { present = true; fingerprint = part 0 s ∷ part 8 s ∷ p
 -- an empty place
 abbrev pub label_empty : LabelRow
 label_empty = record { present = false; fingerprint = 0 ∷ 0 ∷ 0 ∷ 0 ∷ []; size = 0 }
+
+-- what its rows hold
+abbrev pub label_rows : Rows LabelRow
+label_rows = record { held = label_held; row = label_row; vacant = label_empty }

@@ -5,6 +5,7 @@ use Rattle.std.proofs.Common.{of_z, to_z}
 use Rattle.basis.specs.Bytes.{be, value}
 use Rattle.basis.specs.Refusals.{Refused, refused, told}
 use Rattle.basis.specs.declared.refusal.Refusal.{Refusal}
+use Rattle.sheets.specs.Holds.{Rows}
 use Rattle.sheets.specs.declared.kinds.Takings.{Takings}
 use Rattle.sheets.specs.declared.kinds.TakingsRow.{TakingsRow}
 
@@ -34,6 +35,10 @@ takings_row s = record { cents = to_z w64 (value (take 8 s)); receipts = value (
 -- an empty place: an amount below every lawful one
 abbrev pub takings_empty : TakingsRow
 takings_empty = record { cents = negsuc 9223372036854775807; receipts = 0 }
+
+-- what its rows hold
+abbrev pub takings_rows : Rows TakingsRow
+takings_rows = record { held = takings_held; row = takings_row; vacant = takings_empty }
 
 -- making takings: refused with 1 where the amount is out of range
 abbrev pub takings_made : ℤ → ℕ → Result TakingsRow Refused

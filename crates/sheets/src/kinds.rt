@@ -2,7 +2,7 @@
 ghost use Rattle.std.specs.Prelude.{◌≡◌, ◌^◌, ◌<◌, ◌≤◌, length, pos, negsuc, ◌≤ℤ◌, slice_index};
 
 // Net takings in cents, at most 10^12 either way, and the number of receipts.
-#[derive(Clone, Copy)]
+#[derive(Clone, Copy, PartialEq, Eq, Debug)]
 pub struct Takings {
     pub cents: i64,
     pub receipts: u32,
@@ -11,14 +11,14 @@ pub struct Takings {
 }
 
 // What a table holds in the place of takings; a row whose amount is out of range counts as empty.
-#[derive(Clone, Copy)]
+#[derive(Clone, Copy, PartialEq, Eq, Debug)]
 pub struct TakingsRow {
     pub cents: i64,
     pub receipts: u32,
 }
 
 // A label file: its fingerprint, and its length in bytes. Every one is lawful.
-#[derive(Clone, Copy)]
+#[derive(Clone, Copy, PartialEq, Eq, Debug)]
 pub struct Label {
     pub fingerprint: [u64; 4],
     pub size: u32,
@@ -28,8 +28,9 @@ pub struct Label {
 }
 
 // What a table holds in the place of a label; a row that is not present counts as empty.
-#[derive(Clone, Copy)]
+#[derive(Clone, Copy, PartialEq, Eq, Debug)]
 pub struct LabelRow {
+    // a flag beside the fields, since a place in a table is a plain row of numbers
     pub present: bool,
     pub fingerprint: [u64; 4],
     pub size: u32,

@@ -1,6 +1,6 @@
 // Labels as sheets.
 ghost use Rattle.std.specs.Prelude.{◌≡◌};
-ghost use Rattle.sheets.specs.OfLabels.{label_bytes, label_lawful, label_held, label_row, label_empty};
+ghost use Rattle.sheets.specs.OfLabels.{label_bytes, label_lawful, label_rows};
 ghost use Rattle.sheets.specs.OfLabelsLemmas.{file_octets, label_alone, made_of, held_row, kept_of};
 ghost use Rattle.std.proofs.Common.{rules, arith};
 
@@ -14,29 +14,25 @@ impl Sheet for Label {
 
     const KIND: u8 = 2;
 
-    ghost size = { 36 };
+    ghost LEN = { 36 };
 
-    ghost kind = { 2 };
+    ghost KIND = { 2 };
 
     ghost bytes = { label_bytes };
 
     ghost lawful = { label_lawful };
 
-    ghost held = { label_held };
+    ghost rows = { label_rows };
 
-    ghost row = { label_row };
+    ghost short = { first_of (Prim.search rules, Prim.grind arith) };
 
-    ghost vacant = { label_empty };
-
-    ghost short = { first_of (Prim.search rules, Prim.grind (arith, Self.row.coded.inj)) };
-
-    ghost sized = { first_of (Prim.search rules, Prim.grind (arith, Self.row.coded.inj)) };
+    ghost sized = { first_of (Prim.search rules, Prim.grind arith) };
 
     ghost octets = { λ x. file_octets x.fingerprint x.size };
 
     ghost alone = { λ x y e. label_alone x y e };
 
-    ghost accepted = { first_of (Prim.search rules, Prim.grind (arith, Self.row.coded.inj)) };
+    ghost accepted = { first_of (Prim.search rules, Prim.grind arith) };
 
     ghost inhabited = { λ s h l. made_of s h l };
 
@@ -44,15 +40,7 @@ impl Sheet for Label {
 
     ghost kept = { λ r s e. kept_of r s e };
 
-    ghost empty = { first_of (Prim.search rules, Prim.grind (arith, Self.row.coded.inj)) };
-
-    fn byte_len() -> usize {
-        Self::LEN
-    }
-
-    fn kind_number() -> u8 {
-        Self::KIND
-    }
+    ghost empty = { first_of (Prim.search rules, Prim.grind arith) };
 
     fn encode(&self, out: &mut [u8]) {
         out[0..8].copy_from_slice(&self.fingerprint[0].to_be_bytes());
@@ -110,10 +98,6 @@ impl Sheet for Label {
     }
 
     fn is_in(&self, place: &LabelRow) -> bool {
-        let same = (self.fingerprint[0] == place.fingerprint[0])
-            & (self.fingerprint[1] == place.fingerprint[1])
-            & (self.fingerprint[2] == place.fingerprint[2])
-            & (self.fingerprint[3] == place.fingerprint[3]);
-        place.present & same & (self.size == place.size)
+        Self::from_row(*place) == Some(*self)
     }
 }

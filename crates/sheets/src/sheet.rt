@@ -2,7 +2,7 @@
 ghost use Rattle.std.specs.Prelude.{◌≡◌, ℕ, ◌+◌, ◌<◌, ◌≤◌, Bool, true, List, ◌++◌, length, drop, Some, None, Option};
 ghost use Rattle.std.specs.Option.{option_map};
 ghost use Rattle.basis.specs.Bytes.{Octets};
-ghost use Rattle.sheets.specs.Holds.{holds, if_lawful};
+ghost use Rattle.sheets.specs.Holds.{Rows, holds, if_lawful};
 
 pub trait Sheet: Copy {
     // what a table holds in the place of a sheet: plain numbers, which may be no sheet
@@ -13,9 +13,9 @@ pub trait Sheet: Copy {
 
     const KIND: u8;
 
-    ghost size: { ℕ };
+    ghost LEN: { ℕ };
 
-    ghost kind: { ℕ };
+    ghost KIND: { ℕ };
 
     // the bytes of a sheet
     ghost bytes: { Self → List ℕ };
@@ -23,43 +23,32 @@ pub trait Sheet: Copy {
     // which bytes are those of a sheet
     ghost lawful: { List ℕ → Bool };
 
-    // the bytes of the sheet that a row holds; a row that fails the kind's check holds none
-    ghost held: { Self.Row → Option (List ℕ) };
-
-    // the row made of a sheet's bytes, and that of an empty place
-    ghost row: { List ℕ → Self.Row };
-
-    ghost vacant: { Self.Row };
-
-    fn byte_len() -> usize
-        ensures { result ≡ size };
-
-    fn kind_number() -> u8
-        ensures { result ≡ kind };
+    // what rows hold: a row that fails the kind's check holds no sheet
+    ghost rows: { Rows Self.Row };
 
     fn encode(&self, out: &mut [u8])
-        requires { size ≤ length out.old }
-        ensures { out.new ≡ bytes self.now ++ drop size out.old };
+        requires { LEN ≤ length out.old }
+        ensures { out.new ≡ bytes self.now ++ drop LEN out.old };
 
     fn decode(s: &[u8]) -> Option<Self>
         ensures { option_map bytes result ≡ if_lawful lawful s.now };
 
     fn to_row(&self) -> Self::Row
-        ensures { result ≡ row (bytes self.now) };
+        ensures { result ≡ rows.row (bytes self.now) };
 
     fn from_row(place: Self::Row) -> Option<Self>
-        ensures { option_map bytes result ≡ held place };
+        ensures { option_map bytes result ≡ rows.held place };
 
     fn empty_row() -> Self::Row
-        ensures { result ≡ vacant };
+        ensures { result ≡ rows.vacant };
 
     // Whether a row holds this sheet.
     fn is_in(&self, place: &Self::Row) -> bool
-        ensures { result ≡ holds (bytes self.now) (held place.now) };
+        ensures { result ≡ holds (bytes self.now) (rows.held place.now) };
 
-    ghost short: { size + 1 < 65536 };
+    ghost short: { LEN + 1 < 65536 };
 
-    ghost sized: { (s : List ℕ) → lawful s ≡ true → length s ≡ size };
+    ghost sized: { (s : List ℕ) → lawful s ≡ true → length s ≡ LEN };
 
     ghost octets: { (x : Self) → Octets (bytes x) };
 
@@ -72,9 +61,9 @@ pub trait Sheet: Copy {
     ghost inhabited: { (s : List ℕ) → Octets s → lawful s ≡ true → (x : Self) × (bytes x ≡ s) };
 
     // a row gives back the sheet that it was made of, and holds nothing else
-    ghost restored: { (s : List ℕ) → Octets s → length s ≡ size → held (row s) ≡ if_lawful lawful s };
+    ghost restored: { (s : List ℕ) → Octets s → length s ≡ LEN → rows.held (rows.row s) ≡ if_lawful lawful s };
 
-    ghost kept: { (r : Self.Row) (s : List ℕ) → held r ≡ Some s → (lawful s ≡ true) × Octets s };
+    ghost kept: { (r : Self.Row) (s : List ℕ) → rows.held r ≡ Some s → (lawful s ≡ true) × Octets s };
 
-    ghost empty: { held vacant ≡ None };
+    ghost empty: { rows.held rows.vacant ≡ None };
 }

@@ -1,6 +1,6 @@
 // Takings as sheets.
 ghost use Rattle.std.specs.Prelude.{◌≡◌};
-ghost use Rattle.sheets.specs.OfTakings.{takings_bytes, takings_lawful, takings_held, takings_row, takings_empty, takings_made, fields_told, in_range_lem};
+ghost use Rattle.sheets.specs.OfTakings.{takings_bytes, takings_lawful, takings_rows, takings_made, fields_told, in_range_lem};
 ghost use Rattle.std.proofs.Common.{eqb-true, rules, arith};
 ghost use Rattle.std.proofs.lemmas.Bool.{and_parts};
 ghost use Rattle.sheets.specs.OfTakingsLemmas.{amount_octets, takings_alone, amount_lawful, in_range_of, made_of, held_row, kept_of};
@@ -35,21 +35,17 @@ impl Sheet for Takings {
 
     const KIND: u8 = 1;
 
-    ghost size = { 12 };
+    ghost LEN = { 12 };
 
-    ghost kind = { 1 };
+    ghost KIND = { 1 };
 
     ghost bytes = { takings_bytes };
 
     ghost lawful = { takings_lawful };
 
-    ghost held = { takings_held };
+    ghost rows = { takings_rows };
 
-    ghost row = { takings_row };
-
-    ghost vacant = { takings_empty };
-
-    ghost short = { first_of (Prim.search rules, Prim.grind (arith, Self.row.coded.inj)) };
+    ghost short = { first_of (Prim.search rules, Prim.grind arith) };
 
     ghost sized = { λ s h. eqb-true _ _ (and_parts _ _ h).0 };
 
@@ -65,15 +61,7 @@ impl Sheet for Takings {
 
     ghost kept = { λ r s e. kept_of r s e };
 
-    ghost empty = { first_of (Prim.search rules, Prim.grind (arith, Self.row.coded.inj)) };
-
-    fn byte_len() -> usize {
-        Self::LEN
-    }
-
-    fn kind_number() -> u8 {
-        Self::KIND
-    }
+    ghost empty = { first_of (Prim.search rules, Prim.grind arith) };
 
     fn encode(&self, out: &mut [u8]) {
         out[0..8].copy_from_slice(&self.cents.to_be_bytes());
@@ -117,6 +105,6 @@ impl Sheet for Takings {
     }
 
     fn is_in(&self, place: &TakingsRow) -> bool {
-        (self.cents == place.cents) & (self.receipts == place.receipts)
+        Self::from_row(*place) == Some(*self)
     }
 }

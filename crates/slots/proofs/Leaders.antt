@@ -2,7 +2,8 @@
 use Rattle.std.proofs.Common.{◌≡◌, ℕ, zero, suc, ◌+◌, ◌<◌, true, false, cond, List, Some, None, Option, sym, refl, ap, ◌∙◌, ap₂, ⊎_elim, add-one, arith}
 use Rattle.std.proofs.lemmas.Bool.{cases_eq, false≢true}
 use Rattle.messages.specs.declared.message.Phase.{Phase}
-use Rattle.slots.specs.Places.{Rows, or_else, recorded, reaches, backed, leader}
+use Rattle.sheets.specs.Holds.{Rows}
+use Rattle.slots.specs.Places.{or_else, recorded, reaches, backed, leader}
 
 module _ {R : Type 0} (rows : Rows R) (n : ℕ) (ps : List R) (ph : Phase) (k least : ℕ) where
   -- nobody so far, and not this one

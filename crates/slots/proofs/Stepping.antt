@@ -3,7 +3,8 @@ use Rattle.std.proofs.Common.{◌≡◌, ℕ, zero, suc, Bool, false, List, is_s
 use Rattle.std.proofs.lemmas.Bool.{false≢true}
 use Rattle.std.specs.Option.{option_map}
 use Rattle.messages.specs.declared.message.Phase.TheVariants.{Send, Echo, Ready}
-use Rattle.slots.specs.Places.{Rows, or_else, recorded, to_ready}
+use Rattle.sheets.specs.Holds.{Rows}
+use Rattle.slots.specs.Places.{or_else, recorded, to_ready}
 use Rattle.slots.specs.Steps.{Slots, unless, marked, noted, said_due, echo_due, ready_due, delivery_due, delivered_by, next, go_on, stepped, settled}
 use Rattle.slots.specs.declared.slot.Slot.{Slot}
 

@@ -4,13 +4,7 @@ use Rattle.basis.specs.Counts.{count}
 use Rattle.basis.specs.Halls.{quorum, beyond_faults}
 use Rattle.messages.specs.declared.message.Phase.{Phase}
 use Rattle.messages.specs.declared.message.Phase.TheVariants.{Send, Echo, Ready}
-use Rattle.sheets.specs.Holds.{holds}
-
--- what a kind of sheet says of its rows
-pub record Rows (R : Type 0) : Type 0 where
-  pub held : R → Option (List ℕ)
-  pub row : List ℕ → R
-  pub vacant : R
+use Rattle.sheets.specs.Holds.{Rows, holds}
 
 -- how many places a slot has: one for the send, and n each for echoes and readies
 abbrev pub slot_places : ℕ → ℕ

@@ -5,7 +5,8 @@ use Rattle.basis.specs.Halls.{quorum}
 use Rattle.messages.specs.declared.message.Phase.{Phase}
 use Rattle.messages.specs.declared.message.Phase.TheVariants.{Send, Echo, Ready}
 use Rattle.slots.specs.declared.slot.Slot.{Slot}
-use Rattle.slots.specs.Places.{Rows, place, or_else, recorded, leader, sheet_of, to_ready}
+use Rattle.sheets.specs.Holds.{Rows}
+use Rattle.slots.specs.Places.{place, or_else, recorded, leader, sheet_of, to_ready}
 
 -- a replica's tables, as far as sheets go: a record for each slot, and the sheet places
 pub record Slots (R : Type 0) : Type 0 where

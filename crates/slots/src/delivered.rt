@@ -17,7 +17,7 @@ pub fn delivered_sheet<S: Sheet>(
     own: u8,
     slot: u8,
 ) -> Option<S>
-    ensures { option_map S.Sheet.bytes result ≡ delivered_sheet_lem (record { held = S.Sheet.held; row = S.Sheet.row; vacant = S.Sheet.vacant }) n own slot (record { records = records.entry.now; places = places.now }) }
+    ensures { option_map S.Sheet.bytes result ≡ delivered_sheet_lem S.Sheet.rows n own slot (record { records = records.entry.now; places = places.now }) }
 {
     if usize::from(slot) >= records.len() {
         return None;

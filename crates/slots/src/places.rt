@@ -37,7 +37,7 @@ pub fn sheet_from<S: Sheet>(
     sender: u8,
 ) -> Option<S>
     requires { (slot < n) × ((sender < n) × (all_places n ≤ length places.now)) }
-    ensures { option_map S.Sheet.bytes result ≡ recorded (record { held = S.Sheet.held; row = S.Sheet.row; vacant = S.Sheet.vacant }) n places.now phase slot sender }
+    ensures { option_map S.Sheet.bytes result ≡ recorded S.Sheet.rows n places.now phase slot sender }
 {
     S::from_row(places[place_of(n, phase, slot, sender)])
 }
@@ -52,7 +52,7 @@ fn has_sheet<S: Sheet>(
     sheet: &S,
 ) -> bool
     requires { (slot < n) × ((sender < n) × (all_places n ≤ length places.now)) }
-    ensures { result ≡ holds (S.Sheet.bytes sheet.now) (recorded (record { held = S.Sheet.held; row = S.Sheet.row; vacant = S.Sheet.vacant }) n places.now phase slot sender) }
+    ensures { result ≡ holds (S.Sheet.bytes sheet.now) (recorded S.Sheet.rows n places.now phase slot sender) }
 {
     sheet.is_in(&places[place_of(n, phase, slot, sender)])
 }
@@ -60,7 +60,7 @@ fn has_sheet<S: Sheet>(
 // How many senders have the sheet recorded in a slot.
 pub fn count_senders<S: Sheet>(places: &[S::Row], n: u8, phase: Phase, slot: u8, sheet: &S) -> u32
     requires { (slot < n) × (all_places n ≤ length places.now) }
-    ensures { result ≡ tally (record { held = S.Sheet.held; row = S.Sheet.row; vacant = S.Sheet.vacant }) n places.now phase slot (S.Sheet.bytes sheet.now) }
+    ensures { result ≡ tally S.Sheet.rows n places.now phase slot (S.Sheet.bytes sheet.now) }
 {
     let mut many = 0u32;
     for sender in 0..n {
@@ -81,7 +81,7 @@ fn is_backed<S: Sheet>(
     sender: u8,
 ) -> bool
     requires { (slot < n) × ((sender < n) × (all_places n ≤ length places.now)) }
-    ensures { result ≡ backed (record { held = S.Sheet.held; row = S.Sheet.row; vacant = S.Sheet.vacant }) n places.now phase slot least sender }
+    ensures { result ≡ backed S.Sheet.rows n places.now phase slot least sender }
 {
     match sheet_from::<S>(places, n, phase, slot, sender) {
         None => false,
@@ -98,8 +98,8 @@ pub fn leading_sender<S: Sheet>(
     least: u32,
 ) -> Option<u8>
     requires { (slot < n) × (all_places n ≤ length places.now) }
-    ensures value { result ≡ leader (record { held = S.Sheet.held; row = S.Sheet.row; vacant = S.Sheet.vacant }) n places.now phase slot least n }
-    ensures within { IfSome result (λ j. (j < n) × (backed (record { held = S.Sheet.held; row = S.Sheet.row; vacant = S.Sheet.vacant }) n places.now phase slot least j ≡ true)) }
+    ensures value { result ≡ leader S.Sheet.rows n places.now phase slot least n }
+    ensures within { IfSome result (λ j. (j < n) × (backed S.Sheet.rows n places.now phase slot least j ≡ true)) }
 {
     for sender in 0..n {
         if is_backed::<S>(places, n, phase, slot, least, sender) {

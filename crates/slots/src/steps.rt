@@ -24,8 +24,8 @@ fn say_due<S: Sheet>(
     due: Option<S>,
 ) -> bool
     requires { (slot < n) × ((own < n) × (all_places n ≤ length places.old)) }
-    ensures said { result ≡ is_some (unless (recorded (record { held = S.Sheet.held; row = S.Sheet.row; vacant = S.Sheet.vacant }) n places.old phase slot own) (option_map S.Sheet.bytes due)) }
-    ensures left { places.new ≡ said_due (record { held = S.Sheet.held; row = S.Sheet.row; vacant = S.Sheet.vacant }) n own slot phase places.old (unless (recorded (record { held = S.Sheet.held; row = S.Sheet.row; vacant = S.Sheet.vacant }) n places.old phase slot own) (option_map S.Sheet.bytes due)) }
+    ensures said { result ≡ is_some (unless (recorded S.Sheet.rows n places.old phase slot own) (option_map S.Sheet.bytes due)) }
+    ensures left { places.new ≡ said_due S.Sheet.rows n own slot phase places.old (unless (recorded S.Sheet.rows n places.old phase slot own) (option_map S.Sheet.bytes due)) }
 {
     if sheet_from::<S>(places, n, phase, slot, own).is_some() {
         return false;
@@ -40,7 +40,7 @@ fn say_due<S: Sheet>(
 // The sheet that is to be readied: one with 2f + 1 echoes, or else with f + 1 readies.
 fn sheet_to_ready<S: Sheet>(places: &[S::Row], n: u8, slot: u8) -> Option<S>
     requires { (slot < n) × (all_places n ≤ length places.now) }
-    ensures { option_map S.Sheet.bytes result ≡ to_ready (record { held = S.Sheet.held; row = S.Sheet.row; vacant = S.Sheet.vacant }) n places.now slot }
+    ensures { option_map S.Sheet.bytes result ≡ to_ready S.Sheet.rows n places.now slot }
 {
     if let Some(sender) = leading_sender::<S>(places, n, Phase::Echo, slot, quorum_size(n)) {
         return sheet_from(places, n, Phase::Echo, slot, sender);
@@ -52,8 +52,8 @@ fn sheet_to_ready<S: Sheet>(places: &[S::Row], n: u8, slot: u8) -> Option<S>
 // Marks the slot as delivered, if 2f + 1 are ready of one sheet and it is not delivered yet; whether it did.
 fn deliver<S: Sheet>(records: &mut [Slot], places: &[S::Row], n: u8, own: u8, slot: u8) -> bool
     requires { (slot < n) × ((n ≤ length records.old) × (all_places n ≤ length places.now)) }
-    ensures done { result ≡ is_some (delivery_due (record { held = S.Sheet.held; row = S.Sheet.row; vacant = S.Sheet.vacant }) n own slot (record { records = records.entry.now; places = places.now })) }
-    ensures left { records.exit.now ≡ marked slot records.entry.now (delivery_due (record { held = S.Sheet.held; row = S.Sheet.row; vacant = S.Sheet.vacant }) n own slot (record { records = records.entry.now; places = places.now })) }
+    ensures done { result ≡ is_some (delivery_due S.Sheet.rows n own slot (record { records = records.entry.now; places = places.now })) }
+    ensures left { records.exit.now ≡ marked slot records.entry.now (delivery_due S.Sheet.rows n own slot (record { records = records.entry.now; places = places.now })) }
 {
     let at = usize::from(slot);
     if records[at].delivered.is_some() {
@@ -79,8 +79,8 @@ fn take_step<S: Sheet>(
     slot: u8,
 ) -> bool
     requires { (slot < n) × ((own < n) × ((n ≤ length records.old) × (all_places n ≤ length places.old))) }
-    ensures done { result ≡ is_some (next (record { held = S.Sheet.held; row = S.Sheet.row; vacant = S.Sheet.vacant }) n own slot (record { records = records.entry.now; places = places.old })) }
-    ensures left { record { records = records.exit.now; places = places.new } ≡ stepped (record { held = S.Sheet.held; row = S.Sheet.row; vacant = S.Sheet.vacant }) n own slot (record { records = records.entry.now; places = places.old }) }
+    ensures done { result ≡ is_some (next S.Sheet.rows n own slot (record { records = records.entry.now; places = places.old })) }
+    ensures left { record { records = records.exit.now; places = places.new } ≡ stepped S.Sheet.rows n own slot (record { records = records.entry.now; places = places.old }) }
 {
     let send = sheet_from::<S>(places, n, Phase::Send, slot, own);
     if say_due(places, n, own, Phase::Echo, slot, send) {
@@ -96,7 +96,7 @@ fn take_step<S: Sheet>(
 // Takes the steps of a slot while one applies.
 pub fn settle<S: Sheet>(records: &mut [Slot], places: &mut [S::Row], n: u8, own: u8, slot: u8)
     requires { (slot < n) × ((own < n) × ((n ≤ length records.old) × (all_places n ≤ length places.old))) }
-    ensures { record { records = records.exit.now; places = places.new } ≡ settled (record { held = S.Sheet.held; row = S.Sheet.row; vacant = S.Sheet.vacant }) n own slot 3 (record { records = records.entry.now; places = places.old }) }
+    ensures { record { records = records.exit.now; places = places.new } ≡ settled S.Sheet.rows n own slot 3 (record { records = records.entry.now; places = places.old }) }
 {
     for turn in 0..STEPS {
         if !take_step::<S>(records, places, n, own, slot) {

@@ -1,7 +1,7 @@
 -- One slot more.
 use Rattle.std.proofs.Common.{◌≡◌, true, sym, refl, ap, ◌∙◌, arith}
 use Rattle.std.proofs.lemmas.Bool.{cond-true}
-use Rattle.slots.specs.Places.{Rows}
+use Rattle.sheets.specs.Holds.{Rows}
 use Rattle.slots.specs.Steps.{Slots, settled}
 use Rattle.broadcast.specs.Calls.{Holding, looked, of_hall}
 use Rattle.broadcast.proofs.Heard.{looked_more}

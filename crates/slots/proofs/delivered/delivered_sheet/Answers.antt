@@ -2,7 +2,8 @@
 use Rattle.std.proofs.Common.{◌≡◌, ◌≤◌, length, get_or, Some, sym, ap, ◌∙◌, arith, rules}
 use Rattle.std.proofs.lemmas.List.{get_or_past}
 use Rattle.messages.specs.declared.message.Phase.TheVariants.{Ready}
-use Rattle.slots.specs.Places.{Rows, sheet_of, place}
+use Rattle.sheets.specs.Holds.{Rows}
+use Rattle.slots.specs.Places.{sheet_of, place}
 use Rattle.slots.specs.Steps.{cleared}
 use Rattle.slots.specs.declared.slot.Slot.{Slot}
 use Rattle.slots.proofs.delivered.delivered_sheet.Goals as goal

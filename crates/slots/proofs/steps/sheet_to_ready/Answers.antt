@@ -2,7 +2,8 @@
 use Rattle.std.proofs.Common.{◌≡◌, ℕ, true, Some, ap, ◌∙◌, subst}
 use Rattle.basis.specs.Halls.{quorum, beyond_faults}
 use Rattle.messages.specs.declared.message.Phase.TheVariants.{Echo, Ready}
-use Rattle.slots.specs.Places.{Rows, or_else, sheet_of, leader, backed}
+use Rattle.sheets.specs.Holds.{Rows}
+use Rattle.slots.specs.Places.{or_else, sheet_of, leader, backed}
 use Rattle.slots.proofs.Leaders.{backed_first}
 use Rattle.slots.proofs.steps.sheet_to_ready.Goals as goal
 

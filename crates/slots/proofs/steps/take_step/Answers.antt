@@ -1,5 +1,5 @@
 -- Neither echo nor ready applied, so what is left is the delivery's.
-use Rattle.slots.specs.Places.{Rows}
+use Rattle.sheets.specs.Holds.{Rows}
 use Rattle.slots.proofs.Stepping.{last_step}
 use Rattle.slots.proofs.steps.take_step.Goals as goal
 

@@ -1,6 +1,6 @@
 -- What was cleared holds nothing.
 use Rattle.std.proofs.Common.{◌≡◌, length, sym, ap, ◌∙◌, ap₂, arith, rules}
-use Rattle.slots.specs.Places.{Rows}
+use Rattle.sheets.specs.Holds.{Rows}
 use Rattle.broadcast.specs.Calls.{of_hall}
 use Rattle.broadcast.specs.Opening.{cleared_to}
 use Rattle.slots.specs.Steps.{cleared}

@@ -1,6 +1,6 @@
 -- The claims, from the laws of a kind of sheet.
 use Rattle.std.proofs.Common.{rules}
-use Rattle.slots.specs.Places.{Rows}
+use Rattle.sheets.specs.Holds.{Rows}
 use Rattle.broadcast.specs.Claims.{RowLaws}
 use Rattle.broadcast.proofs.OfRuns.{broadcast_holds}
 use Rattle.broadcast.proofs.states.Running.delivered.Goals as goal

@@ -1,5 +1,5 @@
 -- What looking does, and that a slot's steps end.
-use Rattle.slots.specs.Places.{Rows}
+use Rattle.sheets.specs.Holds.{Rows}
 use Rattle.broadcast.specs.Claims.{RowLaws}
 use Rattle.broadcast.proofs.Ending.{steps_end}
 use Rattle.broadcast.proofs.states.Running.look.Goals as goal

@@ -1,20 +1,26 @@
--- The fields are compared; what differs in a field differs in its bytes.
-use Rattle.std.proofs.Common.{sym, ap, ◌∙◌, arith, w32, w64, Fits, SFits, to_z, of_z, rules, eq-eqb, eqb-true}
-use Rattle.std.proofs.lemmas.Int.{to_z-of_z}
+-- The sheet made of the row is compared by its fields; what differs in a field differs in its bytes.
+use Rattle.std.proofs.Common.{◌≡◌, true, refl, ap, subst, ◌∙◌, eq-eqb, eqb-true}
+use Rattle.std.specs.Bool.{Decides}
+use Rattle.std.specs.Ordering.{int_eq}
+use Rattle.std.specs.Prelude.{◌==◌}
 use Rattle.std.proofs.lemmas.Bool.{and_parts, and_from}
-use Rattle.sheets.specs.OfTakingsLemmas.{is_held, not_held, range_fits, in_range_of}
-use Rattle.sheets.specs.Tests.{test_is}
+use Rattle.std.proofs.lemmas.Bool.Decides.{Decides-int_eq}
+use Rattle.sheets.specs.OfTakings.{takings_bytes, amount_bytes}
+use Rattle.sheets.specs.OfTakingsLemmas.{takings_alone}
+use Rattle.sheets.specs.HoldsLemmas.{is_held}
+use Rattle.sheets.specs.declared.kinds.Takings.{Takings}
+use Rattle.sheets.specs.contracts.kinds.TakingsPartialEq.TheImpl.{eq-value as same}
 use Rattle.sheets.proofs.takings.TakingsSheet.is_in.Goals as goal
 
+reflexive : (x : Takings) → same.it x x ≡ true
+reflexive x = and_from _ _ ((Decides-int_eq x.cents x.cents).1 refl) (eq-eqb x.receipts x.receipts refl)
+
+decides : (x y : Takings) → Decides (same.it x y) (takings_bytes x ≡ takings_bytes y)
+decides x y = (
+  λ t. let p = and_parts (int_eq x.cents y.cents) (x.receipts == y.receipts) t in
+      ap (λ z. amount_bytes z x.receipts) ((Decides-int_eq x.cents y.cents).0 p.0) ∙ ap (amount_bytes y.cents) (eqb-true _ _ p.1),
+  λ e. subst (λ z. same.it x z ≡ true) (takings_alone x y e) (reflexive x),
+)
+
 pub returns : goal.returns
-returns c =
-    let x = c.args.self.now in
-    let r = c.args.place.now in
-    let f : SFits w64 r.cents = search rules in
-    let g : Fits w32 r.receipts = search rules in
-    test_is _ _
-    (λ t. let p = and_parts _ _ t in
-    is_held x r
-    (sym (to_z-of_z w64 x.cents (range_fits x.cents (in_range_of x))) ∙ ap (to_z w64) (eqb-true _ _ p.0) ∙ to_z-of_z w64 r.cents f)
-    (eqb-true _ _ p.1))
-    (λ ne. not_held x r (omega arith) (λ p q. ne (and_from _ _ (eq-eqb _ _ (ap (of_z w64) p)) (eq-eqb _ _ q))))
+returns c = c.eq.ensures ∙ is_held takings_bytes same.it decides c.args.self.now c.from_row.result _ c.from_row.ensures

@@ -1,6 +1,0 @@
-use Rattle.std.proofs.Common.{rules}
-use Rattle.basis.proofs.Counts.{quorums_meet, honest_part}
-use Rattle.basis.proofs.replicas.is_quorum_in.Goals as goal
-
-pub returns : goal.returns
-returns c = record { value = search rules; meet = quorums_meet; honest = honest_part }
