@@ -3,7 +3,7 @@ use Rattle.std.specs.Prelude.{ℕ, Bool, true, false, List, None, Ok, Err, Optio
 use Rattle.basis.specs.Refusals.{Refused, number_of}
 use Rattle.messages.specs.Reading.{syntax}
 use Rattle.messages.specs.Tags.{basic_tags}
-use Rattle.sheets.specs.OfTakings.{takings_held, takings_row, takings_empty, takings_lawful}
+use Rattle.sheets.specs.OfTakings.{takings_lawful, takings_rows}
 use Rattle.sheets.specs.declared.kinds.TakingsRow.{TakingsRow}
 use Rattle.sheets.specs.Holds.{Rows}
 use Rattle.slots.specs.Steps.{Slots, delivered_sheet_lem}
@@ -26,10 +26,6 @@ abbrev pub is_running : State → Bool
 is_running (Fresh f) = false
 is_running (Running r) = true
 is_running Gone = false
-
--- takings and their rows
-abbrev pub takings_rows : Rows TakingsRow
-takings_rows = record { held = takings_held; row = takings_row; vacant = takings_empty }
 
 -- what an offer leaves of the tables: only a fresh replica changes them
 abbrev pub offer_left : State → ℕ → List ℕ → Slots TakingsRow → Slots TakingsRow

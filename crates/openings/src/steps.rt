@@ -8,7 +8,7 @@ ghost use Rattle.openings.specs.Openings.{join_zero, join_one, admit, leave, ope
 use crate::admitting::{may_leave_by, tally_of};
 use crate::proposing::vote_for_one;
 use basis::member::Member;
-use basis::replicas::{contains, has_honest_in, is_quorum_in};
+use basis::replicas::{contains, has_honest, is_quorum, size_in};
 use messages::message::BitSet;
 use phases::recording::only;
 use phases::round::PhasedRound;
@@ -18,7 +18,8 @@ pub fn may_join_zero(round: &PhasedRound, member: Member) -> bool
     ensures { result ≡ (join_zero member.n member.own).applies (meaning_of round.now) }
 {
     round.is_entered()
-        & (has_honest_in(round.first.zero, member.n) & !contains(round.first.zero, member.own))
+        & (has_honest(size_in(round.first.zero, member.n), member.n)
+            & !contains(round.first.zero, member.own))
 }
 
 // Says the first vote 0 that f + 1 have cast.
@@ -35,7 +36,7 @@ pub fn may_join_one(round: &PhasedRound, member: Member) -> bool
     ensures { result ≡ (join_one member.n member.own).applies (meaning_of round.now) }
 {
     round.is_entered()
-        & (has_honest_in(round.first.one, member.n)
+        & (has_honest(size_in(round.first.one, member.n), member.n)
             & (!contains(round.first.one, member.own) | !round.has_voted(0x21, member.own)))
 }
 
@@ -54,7 +55,7 @@ pub fn may_admit(round: &PhasedRound, member: Member, bit: bool) -> bool
     ensures { result ≡ (admit member.n member.own (bit_set bit)).applies (meaning_of round.now) }
 {
     round.is_entered()
-        & (is_quorum_in(round.first.cast_for(only(bit)), member.n)
+        & (is_quorum(size_in(round.first.cast_for(only(bit)), member.n), member.n)
             & !round.has_voted(0x21, member.own))
 }
 

@@ -1,8 +1,8 @@
 -- A vote recorded in the masks is a vote added to the meaning. Assumes nothing.
-use Rattle.std.proofs.Common.{◌≡◌, ℕ, ◌^◌, Bool, true, false, cond, not, ◌&&◌, ◌||◌, eqb, Option, sym, refl, ap, ◌∙◌, subst, ap₂}
+use Rattle.std.proofs.Common.{◌≡◌, ℕ, ◌^◌, Bool, true, false, cond, ◌&&◌, ◌||◌, eqb, sym, refl, ap, ◌∙◌, ap₂}
 use mathlib.Core.Path.{fun_ext}
 use lib.Bits.{bit_or}
-use Rattle.std.proofs.lemmas.Bool.{eqb-true, eq-eqb, cond-true}
+use Rattle.std.proofs.lemmas.Bool.{eqb-true}
 use Rattle.basis.specs.Counts.{has}
 use Rattle.basis.proofs.Counts.{has_or, has_one, has_none}
 use Rattle.messages.specs.declared.message.BitSet.{BitSet}
@@ -11,7 +11,7 @@ use Rattle.messages.specs.Tags.{bits_number}
 use Rattle.rules.specs.Rounds.{Round, cleared, adding}
 use Rattle.phases.specs.declared.votes.Votes.{Votes}
 use Rattle.phases.specs.declared.round.PhasedRound.{PhasedRound}
-use Rattle.phases.specs.Records.{no_votes, for_set, with_vote, under, meaning_of, empty_round}
+use Rattle.phases.specs.Records.{no_votes, for_set, with_vote, meaning_of, empty_round}
 use Rattle.phases.specs.Steps.{says}
 
 or_none : (b : Bool) → b ≡ (b || false)

@@ -1,14 +1,14 @@
 -- No step of a round lets an earlier one apply again, so one pass takes all. Assumes nothing.
-use Rattle.std.specs.Prelude.{◌≡◌, ℕ, zero, suc, ◌+◌, ◌<◌, ◌≤◌, Bool, true, false, cond, not, ◌&&◌, ◌||◌, List, [], ◌∷◌, ◌==◌, nat_le}
+use Rattle.std.specs.Prelude.{◌≡◌, ℕ, zero, suc, ◌<◌, Bool, true, false, not, ◌&&◌, ◌||◌, ◌==◌, nat_le}
 use Rattle.std.proofs.Math.Path.{refl, ap₂, fun_ext}
-use Rattle.std.proofs.Common.{sym, ap, ◌∙◌, ⊎_elim, arith}
-use Rattle.std.proofs.lemmas.Bool.{eq-eqb, ne_eqb, and_parts, and_from, or_left, or_right, cases_Bool, cond_both}
+use Rattle.std.proofs.Common.{ap, ◌∙◌, arith}
+use Rattle.std.proofs.lemmas.Bool.{eq-eqb, ne_eqb, and_parts, and_from, or_left, or_right, cond_both}
 use Rattle.basis.specs.Counts.{count}
 use Rattle.basis.specs.Halls.{quorum, beyond_faults}
-use Rattle.basis.specs.Steps.{Step, settled, Idle}
-use Rattle.basis.proofs.Stepping.{Once, KeptOff, passed, settled_passed, passed_idle}
-use Rattle.rules.specs.Rounds.{Round, voted, adding}
-use Rattle.phases.specs.Steps.{says, ends, is_entered_lem, many, admitted, lowest_admitted, counted, enough, union, join, second, third, conclude, two_steps, three_steps}
+use Rattle.basis.specs.Steps.{Step, settled}
+use Rattle.basis.proofs.Stepping.{Once, passed, settled_passed}
+use Rattle.rules.specs.Rounds.{Round, voted}
+use Rattle.phases.specs.Steps.{says, ends, is_entered_lem, admitted, lowest_admitted, enough, union, join, second, third, conclude, two_steps, three_steps}
 use Rattle.phases.specs.Unions.{union_some, union_small}
 
 or_none : (b : Bool) → (b || false) ≡ b

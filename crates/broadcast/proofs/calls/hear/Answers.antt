@@ -8,7 +8,7 @@ use Rattle.broadcast.proofs.calls.hear.Goals as goal
 pub take_sheet-requires : goal.take_sheet-requires
 take_sheet-requires g c =
     let m = g.S.Sheet in
-    let y = syntax m.size m.lawful (record { n = c.args.member.n; tags = c.args.tags; shares = c.args.shares }) in
+    let y = syntax m.LEN m.lawful (record { n = c.args.member.n; tags = c.args.tags; shares = c.args.shares }) in
     let large = and_parts _ _ (sym c.if-not-are_large_enough.ensures) in
     let more = and_parts _ _ large.1 in
     let other = and_parts _ _ (sym c.if-not-is_another.ensures) in

@@ -7,4 +7,4 @@ abbrev pub invariant-loop-slot : goal.invariant-loop-slot
 invariant-loop-slot g l =
     let m = g.S.Sheet in
     record { records = l.records; places = l.places }
-    ≡ looked (record { held = m.held; row = m.row; vacant = m.vacant }) (of_hall l.member.n m.size m.lawful) l.member.own l.slot (record { records = l.initial.records; places = l.initial.places })
+    ≡ looked m.rows (of_hall l.member.n m.LEN m.lawful) l.member.own l.slot (record { records = l.initial.records; places = l.initial.places })

@@ -12,11 +12,11 @@ loop-slot-init g c = refl
 pub returns-in-Some : goal.returns-in-Some
 returns-in-Some g c =
     let m = g.S.Sheet in
-    let rows : Rows _ = record { held = m.held; row = m.row; vacant = m.vacant } in
+    let rows = m.rows in
     this_one rows c.args.member.n c.args.member.own c.args.places.now c.args.phase c.args.from c.loop-slot.slot c.args.member.n _ c.loop-slot-test.true c.loop-slot.invariant c.in-Some.ensures
 
 pub loop-slot-preserved : goal.loop-slot-preserved
 loop-slot-preserved g c =
     let m = g.S.Sheet in
-    let rows : Rows _ = record { held = m.held; row = m.row; vacant = m.vacant } in
+    let rows = m.rows in
     none_more rows c.args.member.n c.args.member.own c.args.places.now c.args.phase c.args.from c.loop-slot.slot c.loop-slot.invariant c.in_default.ensures

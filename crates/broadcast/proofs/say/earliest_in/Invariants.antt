@@ -6,4 +6,4 @@ use Rattle.broadcast.proofs.say.earliest_in.Given as goal
 abbrev pub invariant-loop-slot : goal.invariant-loop-slot
 invariant-loop-slot g l =
     let m = g.S.Sheet in
-    earliest (record { held = m.held; row = m.row; vacant = m.vacant }) l.member.n l.member.own l.places l.phase l.from l.slot ≡ None
+    earliest m.rows l.member.n l.member.own l.places l.phase l.from l.slot ≡ None

@@ -1,5 +1,5 @@
 -- Second votes where their bit is admitted.
-use Rattle.std.proofs.Common.{◌≡◌, ℕ, Bool, ◌&&◌, ap, ◌∙◌}
+use Rattle.std.proofs.Common.{ℕ, Bool, ◌&&◌, ap, ◌∙◌}
 use Rattle.basis.specs.Counts.{has}
 use Rattle.phases.proofs.Masks.{where_has}
 use Rattle.openings.proofs.admitting.supporters.Goals as goal

@@ -1,5 +1,5 @@
 -- The first vote, and for 1 the second.
-use Rattle.std.proofs.Common.{◌≡◌, ℕ, Bool, eqb, sym, ap, ◌∙◌}
+use Rattle.std.proofs.Common.{ℕ, Bool, eqb, sym, ap, ◌∙◌}
 use Rattle.std.proofs.lemmas.Bool.{cond-true}
 use Rattle.rules.specs.Rounds.{bit_set}
 use Rattle.phases.specs.Records.{meaning_of}

@@ -3,7 +3,7 @@ use Rattle.std.proofs.Common.{◌≡◌, sym, ap, ◌∙◌, subst}
 use Rattle.basis.specs.Steps.{taking, Idle}
 use Rattle.basis.proofs.Stepping.{passed}
 use Rattle.phases.specs.Records.{meaning_of}
-use Rattle.openings.specs.Openings.{join_zero, join_one, admit, leave, opening_steps}
+use Rattle.openings.specs.Openings.{join_one, admit, leave, opening_steps}
 use Rattle.openings.proofs.Turning.{opening_pass, opening_idle}
 use Rattle.openings.proofs.steps.take_opening_steps.Goals as goal
 

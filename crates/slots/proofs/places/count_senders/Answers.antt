@@ -15,7 +15,7 @@ pub loop-sender-preserved : goal.loop-sender-preserved
 loop-sender-preserved g c =
     let m = g.S.Sheet in
     let i = c.loop-sender.sender in
-    let p : ℕ → Bool = λ j. holds (m.bytes c.args.sheet.now) (recorded (record { held = m.held; row = m.row; vacant = m.vacant }) c.args.n c.args.places.now c.args.phase c.args.slot j) in
+    let p : ℕ → Bool = λ j. holds (m.bytes c.args.sheet.now) (recorded m.rows c.args.n c.args.places.now c.args.phase c.args.slot j) in
     elim c.if-has_sheet.branch [
       | then-has_sheet w ↦ (omega (arith, w.many-is), w.many-is ∙ ap (λ x. x + 1) c.loop-sender.invariant.1 ∙ sym (count_yes i p (sym w.if-has_sheet.ensures)))
       | else-has_sheet w ↦ (omega (arith, w.many-is), w.many-is ∙ c.loop-sender.invariant.1 ∙ sym (count_no i p (sym w.if-has_sheet.ensures)))

@@ -8,4 +8,4 @@ use Rattle.slots.proofs.places.count_senders.Given as goal
 abbrev pub invariant-loop-sender : goal.invariant-loop-sender
 invariant-loop-sender g l =
     let m = g.S.Sheet in
-    (l.many ≤ l.sender) × (l.many ≡ count l.sender (λ j. holds (m.bytes l.sheet) (recorded (record { held = m.held; row = m.row; vacant = m.vacant }) l.n l.places l.phase l.slot j)))
+    (l.many ≤ l.sender) × (l.many ≡ count l.sender (λ j. holds (m.bytes l.sheet) (recorded m.rows l.n l.places l.phase l.slot j)))

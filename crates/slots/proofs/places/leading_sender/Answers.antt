@@ -11,9 +11,9 @@ loop-sender-init g c = refl
 pub returns-then-is_backed : goal.returns-then-is_backed
 returns-then-is_backed g c =
     let m = g.S.Sheet in
-    record { value = sym (found (record { held = m.held; row = m.row; vacant = m.vacant }) c.args.n c.args.places.now c.args.phase c.args.slot c.args.least c.loop-sender.sender c.args.n c.loop-sender-test.true c.loop-sender.invariant (sym c.if-is_backed.ensures)); within = (c.loop-sender-test.true, sym c.if-is_backed.ensures) }
+    record { value = sym (found m.rows c.args.n c.args.places.now c.args.phase c.args.slot c.args.least c.loop-sender.sender c.args.n c.loop-sender-test.true c.loop-sender.invariant (sym c.if-is_backed.ensures)); within = (c.loop-sender-test.true, sym c.if-is_backed.ensures) }
 
 pub loop-sender-preserved : goal.loop-sender-preserved
 loop-sender-preserved g c =
     let m = g.S.Sheet in
-    nobody_more (record { held = m.held; row = m.row; vacant = m.vacant }) c.args.n c.args.places.now c.args.phase c.args.slot c.args.least c.loop-sender.sender c.loop-sender.invariant (sym c.if-is_backed.ensures)
+    nobody_more m.rows c.args.n c.args.places.now c.args.phase c.args.slot c.args.least c.loop-sender.sender c.loop-sender.invariant (sym c.if-is_backed.ensures)

@@ -6,4 +6,4 @@ use Rattle.slots.proofs.places.leading_sender.Given as goal
 abbrev pub invariant-loop-sender : goal.invariant-loop-sender
 invariant-loop-sender g l =
     let m = g.S.Sheet in
-    leader (record { held = m.held; row = m.row; vacant = m.vacant }) l.n l.places l.phase l.slot l.least l.sender ≡ None
+    leader m.rows l.n l.places l.phase l.slot l.least l.sender ≡ None

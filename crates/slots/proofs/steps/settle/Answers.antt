@@ -8,15 +8,15 @@ loop-turn-preserved g c =
     let m = g.S.Sheet in
     let i = c.loop-turn.turn in
     let less : 3 - i ≡ suc (3 - (i + 1)) = omega (arith, c.loop-turn-test.true) in
-    c.loop-turn.invariant ∙ taken (record { held = m.held; row = m.row; vacant = m.vacant }) c.args.n c.args.own c.args.slot _ _ (3 - i) (3 - (i + 1)) less c.take_step.ensures.left
+    c.loop-turn.invariant ∙ taken m.rows c.args.n c.args.own c.args.slot _ _ (3 - i) (3 - (i + 1)) less c.take_step.ensures.left
 
 pub returns-then-not-take_step : goal.returns-then-not-take_step
 returns-then-not-take_step g c =
     let m = g.S.Sheet in
-    stopped (record { held = m.held; row = m.row; vacant = m.vacant }) c.args.n c.args.own c.args.slot _ _ (3 - c.loop-turn.turn) c.if-not-take_step.ensures.done c.take_step.ensures.left ∙ sym c.loop-turn.invariant
+    stopped m.rows c.args.n c.args.own c.args.slot _ _ (3 - c.loop-turn.turn) c.if-not-take_step.ensures.done c.take_step.ensures.left ∙ sym c.loop-turn.invariant
 
 pub returns : goal.returns
 returns g c =
     let m = g.S.Sheet in
     let over : 3 - c.loop-turn.turn ≡ 0 = omega (arith, c.loop-turn-test.false) in
-    ended (record { held = m.held; row = m.row; vacant = m.vacant }) c.args.n c.args.own c.args.slot _ (3 - c.loop-turn.turn) over ∙ sym c.loop-turn.invariant
+    ended m.rows c.args.n c.args.own c.args.slot _ (3 - c.loop-turn.turn) over ∙ sym c.loop-turn.invariant

@@ -6,5 +6,5 @@ use Rattle.slots.proofs.steps.settle.Given as goal
 abbrev pub invariant-loop-turn : goal.invariant-loop-turn
 invariant-loop-turn g l =
     let m = g.S.Sheet in
-    settled (record { held = m.held; row = m.row; vacant = m.vacant }) l.n l.own l.slot 3 (record { records = l.initial.records; places = l.initial.places })
-    ≡ settled (record { held = m.held; row = m.row; vacant = m.vacant }) l.n l.own l.slot (3 - l.turn) (record { records = l.records; places = l.places })
+    settled m.rows l.n l.own l.slot 3 (record { records = l.initial.records; places = l.initial.places })
+    ≡ settled m.rows l.n l.own l.slot (3 - l.turn) (record { records = l.records; places = l.places })

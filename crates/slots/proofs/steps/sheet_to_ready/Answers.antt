@@ -10,7 +10,7 @@ use Rattle.slots.proofs.steps.sheet_to_ready.Goals as goal
 pub returns-in-Some : goal.returns-in-Some
 returns-in-Some g c =
     let m = g.S.Sheet in
-    let rows : Rows _ = record { held = m.held; row = m.row; vacant = m.vacant } in
+    let rows = m.rows in
     let n = c.args.n in
     let ps = c.args.places.now in
     let k = c.args.slot in

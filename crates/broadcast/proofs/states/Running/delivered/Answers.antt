@@ -9,6 +9,6 @@ pub returns : goal.returns
 returns g c =
     let m = g.S.Sheet in
     let met = g.met.S.Sheet in
-    let rows : Rows _ = record { held = m.held; row = m.row; vacant = m.vacant } in
-    let laws : RowLaws rows m.size m.lawful = record { short = met.short; sized = met.sized; restored = met.restored; kept = met.kept } in
-    record { value = c.delivered_sheet.ensures; runs = broadcast_holds rows m.size m.lawful laws }
+    let rows = m.rows in
+    let laws : RowLaws rows m.LEN m.lawful = record { short = met.short; sized = met.sized; restored = met.restored; kept = met.kept } in
+    record { value = c.delivered_sheet.ensures; runs = broadcast_holds rows m.LEN m.lawful laws }

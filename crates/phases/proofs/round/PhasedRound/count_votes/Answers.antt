@@ -1,5 +1,5 @@
 -- A vote counts where what it names is admitted.
-use Rattle.std.proofs.Common.{◌≡◌, ℕ, Bool, ◌&&◌, ◌||◌, ap, ◌∙◌, ap₂}
+use Rattle.std.proofs.Common.{ℕ, Bool, ◌&&◌, ◌||◌, ap, ◌∙◌, ap₂}
 use lib.Bits.{bit_or}
 use Rattle.basis.specs.Counts.{has}
 use Rattle.phases.specs.declared.votes.Votes.{Votes}

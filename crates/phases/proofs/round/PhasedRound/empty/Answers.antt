@@ -1,5 +1,5 @@
 -- Empty masks record nothing.
-use Rattle.std.proofs.Common.{◌≡◌, None, ap, ◌∙◌, ap₂}
+use Rattle.std.proofs.Common.{None, ap, ◌∙◌, ap₂}
 use Rattle.phases.specs.declared.votes.Votes.{Votes}
 use Rattle.phases.specs.Records.{meaning_of, no_votes}
 use Rattle.phases.proofs.Masks.{none_cast}

@@ -1,5 +1,5 @@
 -- The counted votes are those of the two masks.
-use Rattle.std.proofs.Common.{◌≡◌, ℕ, Bool, ◌||◌, leb, ap, ◌∙◌, ap₂}
+use Rattle.std.proofs.Common.{ℕ, Bool, ◌||◌, leb, ap, ◌∙◌, ap₂}
 use Rattle.basis.specs.Halls.{quorum}
 use Rattle.basis.proofs.Counts.{count_cong}
 use Rattle.phases.specs.Steps.{enough}

@@ -1,8 +1,6 @@
 -- One mask more of one of the three tags.
 use Rattle.std.proofs.Common.{◌≡◌, ℕ, sym, subst}
-use Rattle.messages.specs.Tags.{bits_number}
 use Rattle.rules.specs.Rounds.{Round}
-use Rattle.phases.specs.Records.{meaning_of}
 use Rattle.phases.specs.Steps.{records}
 use Rattle.phases.proofs.Masks.{added_first, added_second, added_third}
 use Rattle.phases.proofs.round.PhasedRound.record_vote.Goals as goal

@@ -1,5 +1,5 @@
 -- 2f + 1 counted votes have a union that is not empty.
-use Rattle.std.proofs.Common.{◌≡◌, sym, arith}
+use Rattle.std.proofs.Common.{sym, arith}
 use Rattle.std.proofs.lemmas.Bool.{and_parts}
 use Rattle.phases.specs.Records.{meaning_of}
 use Rattle.phases.specs.Steps.{is_entered_lem}
