@@ -1,5 +1,5 @@
 -- Clearing a table row by row. Assumes nothing.
-use Rattle.std.proofs.Common.{◌≡◌, ℕ, zero, suc, ◌+◌, ◌<◌, true, List, [], ◌∷◌, ◌++◌, length, get_or, drop, set, replicate, None, refl, ap, ◌∙◌, ap₂, add-one, arith}
+use Rattle.std.proofs.Common.{◌≡◌, ℕ, zero, suc, ◌+◌, ◌<◌, true, List, [], ◌∷◌, ◌++◌, length, get_or, take, drop, set, replicate, None, refl, ap, ◌∙◌, ap₂, add-one, arith, append-nil}
 use Rattle.messages.specs.Reading.{Syntax}
 use Rattle.sheets.specs.Holds.{Rows}
 use Rattle.slots.specs.Places.{all_places}
@@ -34,3 +34,9 @@ opens rows y rounds rs rs' ps ps' none fits lr lp er ep = record {
   undelivered = λ k h. ap (λ (r : Slot). r.delivered) (ap (λ l. get_or l k cleared) er ∙ at_front y.replicas k cleared cleared (drop y.replicas rs) h);
   empty = λ p h. ap rows.held (ap (λ l. get_or l p rows.vacant) ep ∙ at_front (all_places y.replicas) p rows.vacant rows.vacant (drop (all_places y.replicas) ps) h) ∙ none;
 }
+
+-- clearing the first rows alone, and putting the others after them
+pub cleared_front : {X : Type 0} (k : ℕ) (v : X) (xs : List X) → cleared_to k v (take k xs) ++ drop k xs ≡ cleared_to k v xs
+cleared_front zero v xs = refl
+cleared_front (suc k) v [] = ap (λ l. v ∷ l) (append-nil (replicate k v ++ []))
+cleared_front (suc k) v (x ∷ xs) = ap (λ l. v ∷ l) (cleared_front k v xs)

@@ -17,7 +17,7 @@ use Rattle.messages.specs.Tags.{phase_tag}
 use Rattle.messages.specs.Writing.{written}
 use Rattle.sheets.specs.Holds.{Rows, holds}
 use Rattle.slots.specs.Places.{place, sheet_of}
-use Rattle.slots.specs.Steps.{Slots, next, go_on, settled, delivered_sheet_lem}
+use Rattle.slots.specs.Steps.{Slots, go_on, settled, delivered_sheet_lem}
 use Rattle.broadcast.specs.Runs.{offer, hear, upd, Run, opening, calling}
 use Rattle.broadcast.specs.Calls.{Running, Holding, sizes_ok, may_send, hear_answer, if_new, taken, hear_after, offer_after, Said, Opened, Allowed, replicas}
 use Rattle.basis.specs.declared.heard.Heard.{Heard}

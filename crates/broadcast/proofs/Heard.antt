@@ -1,5 +1,5 @@
 -- What a packet that was read as a sheet message is known to be; looking at one slot more. Assumes nothing.
-use Rattle.std.proofs.Common.{◌≡◌, ℕ, ◌+◌, ◌<◌, Bool, true, false, List, Ok, sym, refl, ap, ◌∙◌, subst, add-one, arith}
+use Rattle.std.proofs.Common.{◌≡◌, ℕ, ◌+◌, ◌<◌, true, List, Ok, sym, ap, ◌∙◌, subst, add-one, arith}
 use Rattle.basis.specs.Bytes.{Octets}
 use Rattle.messages.specs.Reading.{Syntax, Placed, reading, Lawful, placed, Exact}
 use Rattle.messages.specs.declared.message.Message.{Message}

@@ -1,5 +1,5 @@
 -- What open checks of a replica's numbers, and what clearing a table leaves. Assumes nothing.
-use Rattle.std.specs.Prelude.{ℕ, cond, List, ◌++◌, length, drop, replicate, Ok, Err, Result, nat_lt}
+use Rattle.std.specs.Prelude.{ℕ, cond, List, ◌++◌, length, drop, replicate, Ok, Err, Result}
 use Rattle.basis.specs.Refusals.{Refused, refused, told, number_of}
 use Rattle.basis.specs.declared.refusal.Refusal.{Refusal}
 use Rattle.messages.specs.Reading.{and_then}

@@ -1,5 +1,5 @@
 -- Which sheet messages a replica has said, in the order of their positions. Assumes nothing.
-use Rattle.std.specs.Prelude.{ℕ, zero, suc, Bool, cond, List, length, Some, None, Ok, Err, Option, Result, nat_le, nat_lt}
+use Rattle.std.specs.Prelude.{ℕ, zero, suc, cond, List, length, Some, None, Ok, Option, Result, nat_le, nat_lt}
 use Rattle.std.specs.Option.{option_map}
 use Rattle.basis.specs.Refusals.{Refused, refused}
 use Rattle.messages.specs.Writing.{written, write_output, position}

@@ -5,4 +5,3 @@ pub mod calls;
 pub mod open;
 pub mod say;
 pub mod states;
-pub mod witness;

@@ -2,13 +2,12 @@
 ghost use Rattle.std.specs.Prelude.{◌≡◌, ◌<◌, ◌≤◌, length};
 ghost use Rattle.broadcast.specs.Opening.{cleared_to};
 
-
 // Clears the first rows of a table; the others stay.
 pub fn clear_to<T: Copy>(rows: &mut [T], count: usize, empty: T)
     requires { count ≤ length rows.old }
     ensures { rows.new ≡ cleared_to count empty rows.old }
 {
-    for i in 0..count {
-        rows[i] = empty;
+    for row in &mut rows[..count] {
+        *row = empty;
     }
 }

@@ -5,18 +5,20 @@ ghost use Rattle.basis.specs.Refusals.{told};
 ghost use Rattle.messages.specs.Reading.{syntax};
 ghost use Rattle.broadcast.specs.Calls.{Opened, Fresh as NotOffered, Running as HasOffered, of_hall, offer_after, hear_answer, hear_after, large_enough, look_after};
 ghost use Rattle.broadcast.specs.Claims.{BroadcastHolds, StepsEnd};
+ghost use Rattle.broadcast.specs.Witness.{SomeRunDelivers};
 ghost use Rattle.broadcast.specs.Saying.{say_answer, say_output};
 ghost use Rattle.slots.specs.Steps.{delivered_sheet_lem};
 ghost use Rattle.broadcast.specs.Opening.{fresh_told, open_answer, open_after, offer_told, offer_answer};
 
-use crate::calls::{are_large_enough, hear, look};
+use crate::calls::{are_large_enough, is_another, take_sheet};
+use crate::open::clear_to;
+use crate::say::next_message;
 use basis::heard::Heard;
 use basis::member::Member;
-use crate::open::clear_to;
-use crate::say::say;
 use basis::refusal::{Reason, Refusal};
-use messages::message::Phase;
-use messages::tags::VoteTags;
+use messages::message::{Message, Phase};
+use messages::read::read;
+use messages::tags::{Format, VoteTags};
 use sheets::rows::put_sheet;
 use sheets::sheet::Sheet;
 use slots::delivered::delivered_sheet;
@@ -81,7 +83,8 @@ impl Fresh {
 }
 
 impl Running {
-    // Hears a packet from a sender.
+    // Hears a packet from a sender: the checks in their order, then the message is recorded and its slot's steps are
+    // taken.
     pub fn hear<S: Sheet>(
         &self,
         records: &mut [Slot],
@@ -95,16 +98,30 @@ impl Running {
         ensures answer { told result ≡ hear_answer S.Sheet.rows (syntax S.Sheet.LEN S.Sheet.lawful (record { n = self.now.member.n; tags = tags; shares = shares })) self.now.member.own sender packet.now (record { life = HasOffered; slots = (record { records = records.entry.now; places = places.old }); rounds = rounds }) }
         ensures left { record { records = records.exit.now; places = places.new } ≡ (hear_after S.Sheet.rows (syntax S.Sheet.LEN S.Sheet.lawful (record { n = self.now.member.n; tags = tags; shares = shares })) self.now.member.own sender packet.now (record { life = HasOffered; slots = (record { records = records.entry.now; places = places.old }); rounds = rounds })).slots }
     {
-        hear::<S>(
-            records,
-            rounds,
-            places,
-            self.member,
+        let member = self.member;
+        if !are_large_enough(member.n, records.len(), rounds, places.len()) {
+            return Err(Reason::TablesTooSmall.at(0));
+        }
+        if !is_another(member, sender) {
+            return Err(Reason::SenderNotAnother.at(0));
+        }
+        let format = Format {
+            n: member.n,
             tags,
             shares,
-            sender,
-            packet,
-        )
+        };
+        match read::<S>(packet, format)? {
+            Message::Sheet { phase, slot, sheet } => take_sheet::<S>(
+                records,
+                places,
+                member,
+                sender,
+                phase,
+                slot,
+                sheet.bytes,
+            ),
+            _ => Err(Reason::TagNotUsed.at(0)),
+        }
     }
 
     // Takes the steps of every slot, the lowest first. A slot's steps end: after three none applies.
@@ -118,7 +135,14 @@ impl Running {
         ensures left { record { records = records.exit.now; places = places.new } ≡ (look_after S.Sheet.rows (of_hall self.now.member.n S.Sheet.LEN S.Sheet.lawful) self.now.member.own (record { life = HasOffered; slots = (record { records = records.entry.now; places = places.old }); rounds = rounds })).slots }
         ensures ends { StepsEnd S.Sheet.rows }
     {
-        look::<S>(records, rounds, places, self.member)
+        let Member { n, own } = self.member;
+        if !are_large_enough(n, records.len(), rounds, places.len()) {
+            return Err(Reason::TablesTooSmall.at(0));
+        }
+        for slot in 0..n {
+            settle::<S>(records, places, n, own, slot);
+        }
+        Ok(())
     }
 
     // Writes the first message said at or after a position and answers its position, or answers that none is left.
@@ -133,14 +157,23 @@ impl Running {
         ensures answer { told result ≡ say_answer S.Sheet.rows self.now.member.n self.now.member.own from (record { life = HasOffered; slots = (record { records = records.entry.now; places = places.now }); rounds = rounds }) out.old }
         ensures output { out.new ≡ say_output S.Sheet.rows self.now.member.n self.now.member.own from (record { life = HasOffered; slots = (record { records = records.entry.now; places = places.now }); rounds = rounds }) out.old }
     {
-        say::<S>(records, rounds, places, self.member, from, out)
+        let member = self.member;
+        if !are_large_enough(member.n, records.len(), rounds, places.len()) {
+            return Err(Reason::TablesTooSmall.at(0));
+        }
+        let Some(message) = next_message::<S>(places, member, from) else {
+            return Ok(None);
+        };
+        message.write(out)?;
+        Ok(Some(message.position()))
     }
 
     // The sheet that is delivered for a slot, if any. In every run honest replicas deliver equal sheets for a slot, an
-    // honest replica's as it was offered, and at rest all deliver what one has.
+    // honest replica's as it was offered, and at rest all deliver what one has; and in some run a sheet is delivered.
     pub fn delivered<S: Sheet>(&self, records: &[Slot], places: &[S::Row], slot: u8) -> Option<S>
         ensures value { option_map S.Sheet.bytes result ≡ delivered_sheet_lem S.Sheet.rows self.now.member.n self.now.member.own slot (record { records = records.entry.now; places = places.now }) }
         ensures runs { BroadcastHolds S.Sheet.rows S.Sheet.LEN S.Sheet.lawful }
+        ensures witness { SomeRunDelivers }
     {
         delivered_sheet(records, places, self.member.n, self.member.own, slot)
     }

@@ -3,5 +3,5 @@ use Rattle.std.proofs.Common.{◌≡◌}
 use Rattle.broadcast.specs.Opening.{cleared_to}
 use Rattle.broadcast.proofs.open.clear_to.Given as goal
 
-abbrev pub invariant-loop-i : goal.invariant-loop-i
-invariant-loop-i g l = l.rows ≡ cleared_to l.i l.empty l.initial.rows
+abbrev pub invariant-loop-row : goal.invariant-loop-row
+invariant-loop-row g l = l.row-items ≡ cleared_to l.row-index l.empty l.initial.row-items

@@ -1,6 +1,5 @@
 -- One slot more.
 use Rattle.std.proofs.Common.{refl}
-use Rattle.sheets.specs.Holds.{Rows}
 use Rattle.broadcast.specs.Saying.{earliest}
 use Rattle.broadcast.proofs.Saying.{none_more, this_one}
 use Rattle.broadcast.proofs.say.earliest_in.Goals as goal

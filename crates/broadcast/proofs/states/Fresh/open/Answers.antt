@@ -1,6 +1,5 @@
 -- What was cleared holds nothing.
-use Rattle.std.proofs.Common.{◌≡◌, length, sym, ap, ◌∙◌, ap₂, arith, rules}
-use Rattle.sheets.specs.Holds.{Rows}
+use Rattle.std.proofs.Common.{◌≡◌, length, sym, ap, ◌∙◌, ap₂, rules}
 use Rattle.broadcast.specs.Calls.{of_hall}
 use Rattle.broadcast.specs.Opening.{cleared_to}
 use Rattle.slots.specs.Steps.{cleared}
