@@ -1,5 +1,6 @@
 -- The reasons of refusals with their numbers and words, and what a caller is told. Assumes nothing.
-use Rattle.std.specs.Prelude.{◌≡◌, ℕ, List, Ok, Err, codes, Result}
+use Rattle.std.specs.Prelude.{◌≡◌, ℕ, List, ◌++◌, Ok, Err, codes, Result}
+use Rattle.std.specs.Fmt.{decimal}
 use Rattle.basis.specs.declared.refusal.Refusal.{Refusal}
 use Rattle.basis.specs.declared.refusal.Reason.{Reason}
 use Rattle.basis.specs.declared.refusal.Reason.TheVariants.{AmountOutOfRange, HallSizeNotListed, OwnNumberTooLarge, TablesTooSmall, SenderNotAnother, NotOneWholeMessage, TagNotUsed, WrongLength, SlotTooLarge, RoundOutOfRange, ValueNotLawful, SendNotFromSlot, Contradiction, BallotUndecided, SheetMissing, OutputTooShort, IndexTooLarge}
@@ -66,3 +67,7 @@ meaning_of BallotUndecided = codes "a ballot is undecided"
 meaning_of SheetMissing = codes "a sheet is missing"
 meaning_of OutputTooShort = codes "the output is too short"
 meaning_of IndexTooLarge = codes "the index is not below the count"
+
+-- a refusal in words: its number, its place and what it means
+abbrev pub in_words : Refusal → List ℕ
+in_words e = decimal (number_of e.reason) ++ (codes " at " ++ (decimal e.place ++ (codes ": " ++ meaning_of e.reason)))

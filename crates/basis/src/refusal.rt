@@ -1,6 +1,6 @@
 // Why a call refuses, and at which place of its input.
-ghost use Rattle.std.specs.Prelude.{◌≡◌};
-ghost use Rattle.basis.specs.Refusals.{number_of, meaning_of, refusal, NumbersApart};
+ghost use Rattle.std.specs.Prelude.{◌≡◌, Some};
+ghost use Rattle.basis.specs.Refusals.{number_of, meaning_of, refusal, in_words, NumbersApart};
 
 use std::fmt;
 
@@ -35,6 +35,8 @@ pub struct Refusal {
 
 // A refusal in words: its number, its place and what it means.
 impl fmt::Display for Refusal {
+    ghost output = { λ e. Some (in_words e) };
+
     fn fmt<W: fmt::Write>(&self, f: &mut fmt::Formatter<W>) -> fmt::Result {
         let number = self.reason.number();
         let place = self.place;

@@ -2,3 +2,4 @@
 pub mod Tags
 pub mod Writing
 pub mod Reading
+pub mod Words

@@ -1,4 +1,8 @@
 // What a message is. A sheet message holds a sheet to be written, or the part of a packet where one was read.
+ghost use Rattle.std.specs.Prelude.{Some};
+ghost use Rattle.messages.specs.Words.{phase_word};
+
+use std::fmt;
 
 // The three messages of the sheet broadcast, with their tags.
 #[derive(Clone, Copy, PartialEq, Eq, Debug)]
@@ -6,6 +10,19 @@ pub enum Phase {
     Send = 0x10,
     Echo = 0x11,
     Ready = 0x12,
+}
+
+// Its word in scripts and output.
+impl fmt::Display for Phase {
+    ghost output = { λ phase. Some (phase_word phase) };
+
+    fn fmt<W: fmt::Write>(&self, f: &mut fmt::Formatter<W>) -> fmt::Result {
+        f.write_str(match self {
+            Phase::Send => "send",
+            Phase::Echo => "echo",
+            Phase::Ready => "ready",
+        })
+    }
 }
 
 // The two votes that carry one bit, with their tags.
