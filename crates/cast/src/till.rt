@@ -5,8 +5,8 @@ ghost use Rattle.sheets.specs.OfTakings.{takings_bytes};
 ghost use Rattle.cast.specs.States.{is_fresh, is_running, offer_left, delivered_of, fault_told, heard_of, said_of, said_output};
 
 use crate::script::Amount;
-use basis::refusal::Refusal;
 use basis::heard::Heard;
+use basis::refusal::Refusal;
 use broadcast::states::{Fresh, Running};
 use messages::tags::VoteTags;
 use sheets::kinds::{Takings, TakingsRow};
