@@ -2,6 +2,8 @@
 #![tactic(auto)]
 
 #[cfg(test)]
+mod four;
+#[cfg(test)]
 mod hearing;
 #[cfg(test)]
 mod opening;

@@ -10,10 +10,8 @@ fn takings_in_range(rt: HostRuntime) -> Result<(), Fail> {
     assert!(rt; Takings::new(-1_000_000_000_000, 7).is_ok());
     let refusals = [1_000_000_000_001, -1_000_000_000_001, i64::MAX, i64::MIN];
     for cents in refusals {
-        match Takings::new(cents, 0) {
-            Ok(_) => return Err(Fail::new("made out of range")),
-            Err(e) => assert_eq!(rt; (e.reason.number(), e.place), (1, 0)),
-        }
+        let refusal = Takings::new(cents, 0).err();
+        assert_eq!(rt; refusal.map(|e| (e.reason.number(), e.place)), Some((1, 0)));
     }
     Ok(())
 }
@@ -27,13 +25,9 @@ fn takings_bytes(rt: HostRuntime) -> Result<(), Fail> {
         &out[..],
         &b"\xff\xff\xff\xff\xff\xff\xff\x38\x00\x00\x00\x01"[..]
     );
-    match Takings::decode(&out) {
-        Some(back) => {
-            assert_eq!(rt; (back.cents, back.receipts), (-200, 1));
-            Ok(())
-        },
-        None => Err(Fail::new("not read")),
-    }
+    let back = Takings::decode(&out);
+    assert_eq!(rt; back.map(|b| (b.cents, b.receipts)), Some((-200, 1)));
+    Ok(())
 }
 
 #[test]

@@ -116,10 +116,11 @@ fn a_short_output_stays(rt: HostRuntime) -> Result<(), Fail> {
         share: 250,
     };
     let mut out = [0xeeu8; 5];
-    match message.write(&mut out) {
-        Ok(_) => return Err(Fail::new("written beyond the end")),
-        Err(e) => assert_eq!(rt; (e.reason.number(), e.place), (16, 0)),
-    }
+    let written = message.write(&mut out);
+    assert_eq!(rt;
+        written.map_err(|e| (e.reason.number(), e.place)),
+        Err((16, 0))
+    );
     assert_eq!(rt; &out[..], &[0xeeu8; 5][..]);
     Ok(())
 }
