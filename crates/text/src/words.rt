@@ -33,7 +33,7 @@ pub fn split_piece(text: &[u8], separator: u8) -> (&[u8], Option<&[u8]>)
     (&text[..end], text.get(end + 1..))
 }
 
-// The words of a text that has three.
+// The words of a text that has three. A tuple: an array of N words that a loop fills gets no generated proof.
 pub fn three_words(text: &[u8]) -> Option<(&[u8], &[u8], &[u8])>
     ensures { option_map (λ t. (t.0.now, t.1.now, t.2.now)) result ≡ three (words text.now) }
 {
