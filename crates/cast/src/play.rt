@@ -13,6 +13,7 @@ use std::alloc::Global;
 // How many bytes a sheet message of takings has: its head, its slot and its sheet.
 const MESSAGE_LEN: usize = HEAD + 1 + <Takings as Sheet>::LEN;
 
+// The size stands beside the tills: all calls take it as a `u8`, which the length of a Vec is not.
 #[derive(Drop)]
 pub struct Hall {
     n: u8,
@@ -121,7 +122,8 @@ impl Hall {
         messages
     }
 
-    // All tills are heard by all others, numbers rising; how many messages were new.
+    // All tills are heard by all others, numbers rising; how many messages were new. A loop and no `sum`, since each
+    // turn changes the tills.
     fn sweep(&mut self) -> u64 {
         let mut messages = 0u64;
         for from in 0..self.n {

@@ -49,7 +49,8 @@ impl<T: Drop> From<AllocFailed<T>> for Fault {
     }
 }
 
-// A replica that may offer, one that has, and what stands while an offer is on its way.
+// A replica that may offer, one that has, and what stands while an offer is on its way: an Option of the first two would
+// have the same third case, as None, in each match.
 #[derive(Drop)]
 enum State {
     Fresh(Fresh),

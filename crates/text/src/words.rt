@@ -129,6 +129,10 @@ mod tests {
         assert_eq!(rt; split_line(b"a\nb"), Some((&b"a"[..], &b"b"[..])));
         assert_eq!(rt; split_line(b"b"), Some((&b"b"[..], &b""[..])));
         assert_eq!(rt; split_line(b"\n\n"), Some((&b""[..], &b"\n"[..])));
+    }
+
+    #[test]
+    fn lines_in_turn(rt: HostRuntime) {
         let mut lines = Lines::of(b"a\n\nb");
         assert_eq!(rt; lines.next(), Some(&b"a"[..]));
         assert_eq!(rt; lines.next(), Some(&b""[..]));
