@@ -5,23 +5,19 @@ use crate::script::{Forgery, Offer};
 use crate::till::{Fault, Till};
 use basis::heard::Heard;
 use messages::message::Message;
+use messages::write::HEAD;
 use sheets::kinds::Takings;
+use sheets::sheet::Sheet;
 use std::alloc::Global;
 
-// How many bytes a sheet message of takings has.
-const MESSAGE_LEN: usize = 16;
+// How many bytes a sheet message of takings has: its head, its slot and its sheet.
+const MESSAGE_LEN: usize = HEAD + 1 + <Takings as Sheet>::LEN;
 
+// The size stands beside the tills: all calls take it as a `u8`, which the length of a Vec is not.
 #[derive(Drop)]
 pub struct Hall {
     n: u8,
     tills: Vec<Till>,
-}
-
-// What became of one message that was passed on: its position, and whether it was new.
-#[derive(Clone, Copy)]
-struct Passed {
-    position: u32,
-    is_new: bool,
 }
 
 // How many sweeps a rest took, and how many messages were new in it.
@@ -34,11 +30,9 @@ pub struct Rested {
 impl Hall {
     // Opens all tills of a hall of n. The first is opened whatever n is, and refused where no hall has that size.
     pub fn open(heap: Global, n: u8) -> Result<Hall, Fault> {
-        let mut tills = Vec::new(heap);
-        tills.push(Till::open(heap, n, 0)?)?;
-        for number in 1..n {
-            tills.push(Till::open(heap, n, number)?)?;
-        }
+        let tills = (0..n.max(1))
+            .map(|number| Till::open(heap, n, number))
+            .try_collect(heap)?;
         Ok(Hall { n, tills })
     }
 
@@ -54,10 +48,9 @@ impl Hall {
     }
 
     fn till(&mut self, number: u8) -> Result<&mut Till, Fault> {
-        match self.tills.get_mut(usize::from(number)) {
-            Some(till) => Ok(till),
-            None => Err(Fault::Misplaced),
-        }
+        self.tills
+            .get_mut(usize::from(number))
+            .ok_or(Fault::Misplaced)
     }
 
     // A till of the hall offers.
@@ -87,31 +80,33 @@ impl Hall {
         let mut packet = [0u8; MESSAGE_LEN];
         let message = Message::Sheet { phase, slot, sheet };
         let len = message.write(&mut packet)?;
-        self.till(to)?.hear(from, &packet[0..len])
+        self.hear(to, from, &packet[..len])
     }
 
-    // Passes on one message of a till, the first at or after a position, if one is left.
-    fn pass_one(&mut self, from: u8, to: u8, position: u32) -> Result<Option<Passed>, Fault> {
-        let mut packet = [0u8; MESSAGE_LEN];
-        let Some(position) = self.till(from)?.say_from(position, &mut packet)? else {
-            return Ok(None);
-        };
-        let heard = self.till(to)?.hear(from, &packet);
-        let is_new = matches!(heard, Ok(Heard::New));
-        Ok(Some(Passed { position, is_new }))
+    // A till says its first message at or after a position, if one is left.
+    fn say(&mut self, from: u8, position: u32, packet: &mut [u8]) -> Result<Option<u32>, Fault> {
+        self.till(from)?.say_from(position, packet)
+    }
+
+    // A till hears a packet from another.
+    fn hear(&mut self, to: u8, from: u8, packet: &[u8]) -> Result<Heard, Fault> {
+        self.till(to)?.hear(from, packet)
     }
 
     // Passes on all messages of a till to another, positions rising; how many were new. A till says one send, and an
     // echo and a ready for each slot at most.
     fn pass_all(&mut self, from: u8, to: u8) -> u64 {
+        let mut packet = [0u8; MESSAGE_LEN];
         let mut messages = 0u64;
         let mut position = 0u32;
         for _ in 0..2 * u32::from(self.n) + 1 {
-            let Ok(Some(passed)) = self.pass_one(from, to, position) else {
+            let Ok(Some(said)) = self.say(from, position, &mut packet) else {
                 break;
             };
-            messages = messages.saturating_add(u64::from(passed.is_new));
-            position = passed.position.saturating_add(1);
+            if let Ok(Heard::New) = self.hear(to, from, &packet) {
+                messages = messages.saturating_add(1);
+            }
+            position = said.saturating_add(1);
         }
         messages
     }
@@ -127,7 +122,8 @@ impl Hall {
         messages
     }
 
-    // All tills are heard by all others, numbers rising; how many messages were new.
+    // All tills are heard by all others, numbers rising; how many messages were new. A loop and no `sum`, since each
+    // turn changes the tills.
     fn sweep(&mut self) -> u64 {
         let mut messages = 0u64;
         for from in 0..self.n {
@@ -150,9 +146,9 @@ impl Hall {
             sweeps: 0,
             messages: 0,
         };
-        for _ in 0..self.sweep_limit() {
+        for sweeps in 1..=self.sweep_limit() {
             let messages = self.sweep();
-            rested.sweeps = rested.sweeps.saturating_add(1);
+            rested.sweeps = sweeps;
             rested.messages = rested.messages.saturating_add(messages);
             if messages == 0 {
                 break;

@@ -1,6 +1,6 @@
 // What the program says of each line, and at the end.
 use crate::play::{Hall, Rested};
-use crate::script::{Amount, Command, Forgery, Offer, parse, phase_word};
+use crate::script::{Command, Forgery, Offer, parse, phase_word};
 use crate::till::{Fault, Till};
 use anyhow::anyhow;
 use basis::heard::Heard;
@@ -10,14 +10,8 @@ use std::alloc::Global;
 use std::fmt;
 use std::fmt::Write;
 use std::io::Read;
-use text::words::split_line;
-
-// Whether the play goes on after a line.
-#[derive(Clone, Copy)]
-enum Next {
-    GoOn,
-    Stop,
-}
+use std::ops::ControlFlow;
+use text::words::Lines;
 
 // A refusal in words: its number, its place and what it means.
 #[derive(Clone, Copy)]
@@ -37,16 +31,16 @@ fn say_not_understood(rt: &HostRuntime, line: u64) -> anyhow::Result<()> {
     Ok(())
 }
 
-fn open_hall(rt: &HostRuntime, hall: &mut Option<Hall>, n: u8) -> anyhow::Result<Next> {
+fn open_hall(rt: &HostRuntime, hall: &mut Option<Hall>, n: u8) -> anyhow::Result<ControlFlow<()>> {
     match Hall::open(rt.alloc(), n) {
         Ok(opened) => {
             *hall = Some(opened);
-            Ok(Next::GoOn)
+            Ok(ControlFlow::Continue(()))
         }
         Err(Fault::Refused(refusal)) => {
             let words = InWords(refusal);
             println!(rt; "hall refused {words}")?;
-            Ok(Next::Stop)
+            Ok(ControlFlow::Break(()))
         }
         Err(_) => Err(anyhow!("out of memory")),
     }
@@ -54,9 +48,9 @@ fn open_hall(rt: &HostRuntime, hall: &mut Option<Hall>, n: u8) -> anyhow::Result
 
 fn play_offer(rt: &HostRuntime, hall: &mut Hall, line: u64, offer: Offer) -> anyhow::Result<()> {
     let till = offer.till;
-    let Amount { cents, receipts } = offer.amount;
+    let amount = offer.amount;
     match hall.offer(offer) {
-        Ok(()) => println!(rt; "till {till} offers {cents} {receipts}")?,
+        Ok(()) => println!(rt; "till {till} offers {amount}")?,
         Err(Fault::Refused(refusal)) => {
             let words = InWords(refusal);
             println!(rt; "till {till} refused {words}")?;
@@ -98,8 +92,7 @@ fn play_forgery(
     if !hall.may_forge(forgery) {
         return say_not_understood(rt, line);
     }
-    let Amount { cents, receipts } = forgery.amount;
-    match Takings::new(cents, receipts) {
+    match Takings::try_from(forgery.amount) {
         Ok(sheet) => say_heard(rt, line, forgery, hall.forge(forgery, sheet)),
         Err(refusal) => {
             let from = forgery.from;
@@ -168,19 +161,19 @@ fn play_command(
     }
 }
 
-// Plays one line; only a refused hall ends the play.
+// Plays one line, and says whether the play goes on; only a refused hall ends it.
 fn play_line(
     rt: &HostRuntime,
     hall: &mut Option<Hall>,
     line: u64,
     text: &[u8],
-) -> anyhow::Result<Next> {
+) -> anyhow::Result<ControlFlow<()>> {
     match parse(text) {
         Some(Command::Hall(n)) if line == 1 => return open_hall(rt, hall, n),
         Some(command) => play_command(rt, hall, line, command)?,
         None => say_not_understood(rt, line)?,
     }
-    Ok(Next::GoOn)
+    Ok(ControlFlow::Continue(()))
 }
 
 // Goes through the lines of the input.
@@ -188,13 +181,11 @@ pub fn run(rt: &HostRuntime) -> anyhow::Result<()> {
     let mut input = Vec::new(rt.alloc());
     let _ = rt.stdin().read_to_end(&mut input)?;
     let mut hall = None;
-    let mut rest = input.as_slice();
-    let mut lines = 0u64;
-    while let Some((line, more)) = split_line(rest) {
-        lines = lines.saturating_add(1);
-        match play_line(rt, &mut hall, lines, line)? {
-            Next::GoOn => rest = more,
-            Next::Stop => break,
+    let mut lines = 0;
+    for (number, line) in (1u64..).zip(Lines::of(input.as_slice())) {
+        lines = number;
+        if play_line(rt, &mut hall, number, line)?.is_break() {
+            break;
         }
     }
     println!(rt; "{lines} lines")?;

@@ -1,9 +1,11 @@
 // The lines of a script: what each of them asks for.
 ghost use Rattle.std.specs.Prelude.{◌≡◌};
-ghost use Rattle.std.specs.Str.{bytes_eq};
 ghost use Rattle.cast.specs.Commands.{small_of, amount_of_lem, phase_of_lem, phase_word_lem, offer_of, forgery_of, bare_command, full_command, command_of};
 
+use basis::refusal::Refusal;
 use messages::message::Phase;
+use sheets::kinds::Takings;
+use std::fmt;
 use text::number::{decimal, signed};
 use text::words::{split_piece, three_words};
 
@@ -12,6 +14,21 @@ use text::words::{split_piece, three_words};
 pub struct Amount {
     pub cents: i64,
     pub receipts: u32,
+}
+
+impl TryFrom<Amount> for Takings {
+    type Error = Refusal;
+
+    fn try_from(amount: Amount) -> Result<Takings, Refusal> {
+        Takings::new(amount.cents, amount.receipts)
+    }
+}
+
+impl fmt::Display for Amount {
+    fn fmt<W: fmt::Write>(&self, f: &mut fmt::Formatter<W>) -> fmt::Result {
+        let Amount { cents, receipts } = *self;
+        write!(f, "{cents} {receipts}")
+    }
 }
 
 // A till offers.
@@ -44,42 +61,27 @@ pub enum Command {
 fn small(word: &[u8]) -> Option<u8>
     ensures { result ≡ small_of word.now }
 {
-    Some(decimal(word)?.min(0xff) as u8)
+    Some(u8::try_from(decimal(word)?).unwrap_or(u8::MAX))
 }
 
 // An amount beyond 64 bits is the nearest one, which is out of range all the same; receipts from 2^32 on are none.
 fn amount_of(cents: &[u8], receipts: &[u8]) -> Option<Amount>
     ensures { result ≡ amount_of_lem cents.now receipts.now }
 {
-    let cents = signed(cents)?;
-    let receipts = decimal(receipts)?;
-    if receipts > 0xffff_ffff {
-        return None;
-    }
     Some(Amount {
-        cents,
-        receipts: receipts as u32,
+        cents: signed(cents)?,
+        receipts: u32::try_from(decimal(receipts)?).ok()?,
     })
-}
-
-// Whether a text is a word.
-fn is_word(text: &[u8], word: &[u8]) -> bool
-    ensures { result ≡ bytes_eq text.now word.now }
-{
-    text == word
 }
 
 fn phase_of(word: &[u8]) -> Option<Phase>
     ensures { result ≡ phase_of_lem word.now }
 {
-    if is_word(word, b"send") {
-        Some(Phase::Send)
-    } else if is_word(word, b"echo") {
-        Some(Phase::Echo)
-    } else if is_word(word, b"ready") {
-        Some(Phase::Ready)
-    } else {
-        None
+    match word {
+        b"send" => Some(Phase::Send),
+        b"echo" => Some(Phase::Echo),
+        b"ready" => Some(Phase::Ready),
+        _ => None,
     }
 }
 
@@ -123,12 +125,10 @@ fn parse_forgery(words: &[u8]) -> Option<Forgery>
 fn parse_bare(word: &[u8]) -> Option<Command>
     ensures { result ≡ bare_command word.now }
 {
-    if is_word(word, b"rest") {
-        Some(Command::Rest)
-    } else if is_word(word, b"show") {
-        Some(Command::Show)
-    } else {
-        None
+    match word {
+        b"rest" => Some(Command::Rest),
+        b"show" => Some(Command::Show),
+        _ => None,
     }
 }
 
@@ -136,14 +136,11 @@ fn parse_bare(word: &[u8]) -> Option<Command>
 fn parse_full(word: &[u8], more: &[u8]) -> Option<Command>
     ensures { result ≡ full_command word.now more.now }
 {
-    if is_word(word, b"hall") {
-        Some(Command::Hall(small(more)?))
-    } else if is_word(word, b"offer") {
-        Some(Command::Offer(parse_offer(more)?))
-    } else if is_word(word, b"forge") {
-        Some(Command::Forge(parse_forgery(more)?))
-    } else {
-        None
+    match word {
+        b"hall" => small(more).map(Command::Hall),
+        b"offer" => parse_offer(more).map(Command::Offer),
+        b"forge" => parse_forgery(more).map(Command::Forge),
+        _ => None,
     }
 }
 

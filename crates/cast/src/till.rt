@@ -2,12 +2,14 @@
 ghost use Rattle.std.specs.Prelude.{◌≡◌, true, false, is_ok, Err};
 ghost use Rattle.std.specs.Option.{option_map};
 ghost use Rattle.sheets.specs.OfTakings.{takings_bytes};
+ghost use Rattle.cast.specs.declared.till.Fault.TheVariants.{Refused};
 ghost use Rattle.cast.specs.States.{is_fresh, is_running, offer_left, delivered_of, fault_told, heard_of, said_of, said_output};
 
 use crate::script::Amount;
 use basis::heard::Heard;
 use basis::refusal::Refusal;
 use broadcast::states::{Fresh, Running};
+use messages::read::LAST_ROUND;
 use messages::tags::VoteTags;
 use sheets::kinds::{Takings, TakingsRow};
 use sheets::sheet::Sheet;
@@ -15,9 +17,6 @@ use slots::places::places_in;
 use slots::slot::Slot;
 use std::alloc::{AllocError, AllocFailed, Global};
 use std::mem::replace;
-
-// How many rounds have a record for each slot.
-const ROUNDS: usize = 15;
 
 // Why a till does not do what a line asks.
 #[derive(Drop)]
@@ -31,6 +30,8 @@ pub enum Fault {
 }
 
 impl From<Refusal> for Fault {
+    ghost from_gives = { λ refusal e. e ≡ Refused refusal };
+
     fn from(refusal: Refusal) -> Fault {
         Fault::Refused(refusal)
     }
@@ -48,7 +49,8 @@ impl<T: Drop> From<AllocFailed<T>> for Fault {
     }
 }
 
-// A replica that may offer, one that has, and what stands while an offer is on its way.
+// A replica that may offer, one that has, and what stands while an offer is on its way: an Option of the first two would
+// have the same third case, as None, in each match.
 #[derive(Drop)]
 enum State {
     Fresh(Fresh),
@@ -72,10 +74,7 @@ impl State {
         match self {
             State::Fresh(fresh) => match fresh.offer(records, rounds, places, sheet) {
                 Ok(running) => (State::Running(running), Ok(())),
-                Err(back) => {
-                    let (fresh, refusal) = back;
-                    (State::Fresh(fresh), Err(Fault::Refused(refusal)))
-                }
+                Err((fresh, refusal)) => (State::Fresh(fresh), Err(refusal.into())),
             },
             other => (other, Err(Fault::Misplaced)),
         }
@@ -96,7 +95,7 @@ impl Till {
     pub fn open(heap: Global, n: u8, number: u8) -> Result<Till, Fault> {
         let size = usize::from(n);
         let mut records = vec![in heap; Slot { delivered: None }; size]?;
-        let rounds = ROUNDS * size;
+        let rounds = usize::from(LAST_ROUND) * size;
         let mut places = vec![in heap; Takings::empty_row(); places_in(n)]?;
         let fresh = Fresh::open::<Takings>(
             n,
@@ -134,7 +133,7 @@ impl Till {
         if self.has_offered() {
             return Err(Fault::Misplaced);
         }
-        let sheet = Takings::new(amount.cents, amount.receipts)?;
+        let sheet = Takings::try_from(amount)?;
         let state = replace(&mut self.state, State::Gone);
         let records = self.records.as_mut_slice();
         let places = self.places.as_mut_slice();
@@ -158,11 +157,8 @@ impl Till {
             false,
             sender,
             packet,
-        );
-        match heard {
-            Ok(heard) => Ok(heard),
-            Err(refusal) => Err(Fault::Refused(refusal)),
-        }
+        )?;
+        Ok(heard)
     }
 
     // Writes the first message that the till has said at or after a position, and answers its position.
@@ -175,10 +171,7 @@ impl Till {
         };
         let records = self.records.as_slice();
         let places = self.places.as_slice();
-        match running.say::<Takings>(records, self.rounds, places, position, packet) {
-            Ok(said) => Ok(said),
-            Err(refusal) => Err(Fault::Refused(refusal)),
-        }
+        Ok(running.say::<Takings>(records, self.rounds, places, position, packet)?)
     }
 
     // The takings that the till has delivered for a slot, if any.

@@ -1,10 +1,9 @@
 -- An entry that is sent is received as it was. Assumes nothing.
-use Rattle.std.proofs.Common.{◌≡◌, ℕ, ◌^◌, ◌<◌, Bool, true, false, cond, ltb, List, ◌++◌, length, take, drop, Some, None, Ok, Err, Option, Result, sym, refl, ap, ◌∙◌, ap₂, arith}
+use Rattle.std.proofs.Common.{◌≡◌, ℕ, ◌^◌, ◌<◌, Bool, true, false, cond, ltb, List, ◌++◌, length, take, drop, Some, None, Ok, Option, Result, sym, refl, ap, ◌∙◌, ap₂, arith}
 use Rattle.std.proofs.lemmas.Bool.{ltb-true, cond-true, cond-false, and_parts, eqb-true}
 use Rattle.basis.specs.Refusals.{Refused, refused}
-use Rattle.messages.specs.Reading.{Placed, reading, and_then, body_reading}
-use Rattle.messages.specs.Writing.{written, write_answer, write_output}
-use Rattle.messages.specs.declared.message.Message.{Message}
+use Rattle.messages.specs.Reading.{and_then, body_reading}
+use Rattle.messages.specs.Writing.{write_answer}
 use Rattle.messages.specs.declared.message.Message.TheVariants.{Sheet}
 use Rattle.messages.specs.declared.message.Phase.TheVariants.{Send}
 use Rattle.messages.specs.declared.message.Shape.TheVariants as shape

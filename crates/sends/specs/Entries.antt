@@ -1,12 +1,11 @@
 -- What a line of input means, and what comes of an entry that is sent and read back. Assumes nothing.
-use Rattle.std.specs.Prelude.{ℕ, ◌^◌, Bool, false, cond, ◌&&◌, List, length, ℤ, Some, None, Ok, Err, Option, Result, nat_lt}
+use Rattle.std.specs.Prelude.{ℕ, ◌^◌, false, cond, ◌&&◌, List, length, ℤ, Some, None, Ok, Option, Result, nat_lt}
 use Rattle.basis.specs.Refusals.{Refused, refused}
 use Rattle.messages.specs.Reading.{Placed, Syntax, syntax, reading, and_then}
 use Rattle.messages.specs.Tags.{basic_tags}
 use Rattle.messages.specs.Writing.{written, write_answer, write_output}
 use Rattle.messages.specs.declared.message.Message.{Message}
 use Rattle.messages.specs.declared.message.Message.TheVariants.{Sheet, Bit, Set, Share}
-use Rattle.messages.specs.declared.message.Phase.{Phase}
 use Rattle.messages.specs.declared.message.Phase.TheVariants.{Send, Echo, Ready}
 use Rattle.sheets.specs.OfTakings.{in_range_lem, amount_bytes, takings_lawful, takings_row}
 use Rattle.text.specs.Decimals.{decimal_of, signed_of}

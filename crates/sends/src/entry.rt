@@ -2,6 +2,7 @@
 ghost use Rattle.std.specs.Prelude.{◌≡◌};
 ghost use Rattle.sends.specs.Entries.{entry_of};
 
+use std::fmt;
 use text::number::{decimal, signed};
 use text::words::three_words;
 
@@ -12,21 +13,26 @@ pub struct Entry {
     pub receipts: u32,
 }
 
+impl fmt::Display for Entry {
+    fn fmt<W: fmt::Write>(&self, f: &mut fmt::Formatter<W>) -> fmt::Result {
+        let Entry {
+            till,
+            cents,
+            receipts,
+        } = *self;
+        write!(f, "till {till}, cents {cents}, receipts {receipts}")
+    }
+}
+
 // The entry of a line of three numbers with single spaces between them. A till from 256 on and receipts from 2^32 on
 // are none; an amount beyond 64 bits is the nearest one, which is out of range all the same.
 pub fn parse(line: &[u8]) -> Option<Entry>
     ensures { result ≡ entry_of line.now }
 {
     let (till, cents, receipts) = three_words(line)?;
-    let till = decimal(till)?;
-    let cents = signed(cents)?;
-    let receipts = decimal(receipts)?;
-    if till > 0xff || receipts > 0xffff_ffff {
-        return None;
-    }
     Some(Entry {
-        till: till as u8,
-        cents,
-        receipts: receipts as u32,
+        till: u8::try_from(decimal(till)?).ok()?,
+        cents: signed(cents)?,
+        receipts: u32::try_from(decimal(receipts)?).ok()?,
     })
 }

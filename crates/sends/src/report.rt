@@ -4,26 +4,40 @@ use crate::trip::{HALL, SEND_LEN, round_trip};
 use basis::refusal::Refusal;
 use std::io::Read;
 use text::hex::push_hex;
-use text::words::split_line;
+use text::words::Lines;
+
+// What a line came to.
+#[derive(Clone, Copy)]
+enum Outcome {
+    Sent,
+    Refused,
+    Unread,
+}
 
 // How many lines came to what.
-#[derive(Drop)]
+#[derive(Default, Drop)]
 struct Tally {
     sent: u64,
     refused: u64,
     unread: u64,
 }
 
+impl Tally {
+    fn add(&mut self, outcome: Outcome) {
+        let count = match outcome {
+            Outcome::Sent => &mut self.sent,
+            Outcome::Refused => &mut self.refused,
+            Outcome::Unread => &mut self.unread,
+        };
+        *count = count.saturating_add(1);
+    }
+}
+
 fn say_sent(rt: &HostRuntime, entry: Entry, packet: &[u8]) -> anyhow::Result<()> {
     let mut hex = String::new(rt.alloc());
     push_hex(&mut hex, packet)?;
-    let Entry {
-        till,
-        cents,
-        receipts,
-    } = entry;
     println!(rt; "  {hex}")?;
-    println!(rt; "  reads as the send of till {till}, cents {cents}, receipts {receipts}")?;
+    println!(rt; "  reads as the send of {entry}")?;
     Ok(())
 }
 
@@ -35,28 +49,26 @@ fn say_refused(rt: &HostRuntime, refusal: Refusal) -> anyhow::Result<()> {
     Ok(())
 }
 
-fn say_line(rt: &HostRuntime, line: &[u8], tally: &mut Tally) -> anyhow::Result<()> {
+fn say_line(rt: &HostRuntime, line: &[u8]) -> anyhow::Result<Outcome> {
     let Some(entry) = parse(line) else {
-        tally.unread = tally.unread.saturating_add(1);
         println!(rt;
             "  not understood: till below 256, cents, receipts below 2^32, with single spaces between them"
         )?;
-        return Ok(());
+        return Ok(Outcome::Unread);
     };
     let mut packet = [0u8; SEND_LEN];
     match round_trip(entry, &mut packet) {
         Ok(Some(back)) => {
-            tally.sent = tally.sent.saturating_add(1);
-            say_sent(rt, back, &packet)
+            say_sent(rt, back, &packet)?;
+            Ok(Outcome::Sent)
         }
         Ok(None) => {
-            tally.unread = tally.unread.saturating_add(1);
             println!(rt; "  reads as another message")?;
-            Ok(())
+            Ok(Outcome::Unread)
         }
         Err(refusal) => {
-            tally.refused = tally.refused.saturating_add(1);
-            say_refused(rt, refusal)
+            say_refused(rt, refusal)?;
+            Ok(Outcome::Refused)
         }
     }
 }
@@ -65,18 +77,12 @@ fn say_line(rt: &HostRuntime, line: &[u8], tally: &mut Tally) -> anyhow::Result<
 pub fn run(rt: &HostRuntime) -> anyhow::Result<()> {
     let mut input = Vec::new(rt.alloc());
     let _ = rt.stdin().read_to_end(&mut input)?;
-    let mut tally = Tally {
-        sent: 0,
-        refused: 0,
-        unread: 0,
-    };
-    let mut rest = input.as_slice();
-    let mut number = 0u64;
-    while let Some((line, more)) = split_line(rest) {
-        number = number.saturating_add(1);
+    let mut tally = Tally::default();
+    let mut lines = 0;
+    for (number, line) in (1u64..).zip(Lines::of(input.as_slice())) {
         println!(rt; "line {number}")?;
-        say_line(rt, line, &mut tally)?;
-        rest = more;
+        tally.add(say_line(rt, line)?);
+        lines = number;
     }
     let Tally {
         sent,
@@ -84,7 +90,7 @@ pub fn run(rt: &HostRuntime) -> anyhow::Result<()> {
         unread,
     } = tally;
     println!(rt;
-        "hall of {HALL}, lines {number}: sent and read back {sent}, refused {refused}, not understood {unread}"
+        "hall of {HALL}, lines {lines}: sent and read back {sent}, refused {refused}, not understood {unread}"
     )?;
     Ok(())
 }

@@ -10,14 +10,15 @@ use basis::refusal::Refusal;
 use messages::message::{Message, Part, Phase};
 use messages::read::read;
 use messages::tags::{Format, VoteTags};
+use messages::write::HEAD;
 use sheets::kinds::Takings;
 use sheets::sheet::Sheet;
 
 // The hall that the messages are for.
 pub const HALL: u8 = 4;
 
-// How many bytes a send message of takings has.
-pub const SEND_LEN: usize = 16;
+// How many bytes a send message of takings has: its head, its slot and its sheet.
+pub const SEND_LEN: usize = HEAD + 1 + <Takings as Sheet>::LEN;
 
 // The entry of a send message for a slot, if the bytes of its sheet are takings.
 fn entry_at(slot: u8, bytes: &[u8]) -> Option<Entry>
@@ -32,7 +33,7 @@ fn entry_at(slot: u8, bytes: &[u8]) -> Option<Entry>
 }
 
 // The entry that a message carries, if it is a send message of takings.
-fn entry_of(message: Message<Part<'_>>) -> Option<Entry>
+fn sent_entry(message: Message<Part<'_>>) -> Option<Entry>
     ensures { result ≡ sent (on_sheet part_placed message.entry) }
 {
     match message {
@@ -68,7 +69,7 @@ fn receive(packet: &[u8]) -> Result<Option<Entry>, Refusal>
         tags: VoteTags::basic(),
         shares: false,
     };
-    Ok(entry_of(read::<Takings>(packet, format)?))
+    Ok(sent_entry(read::<Takings>(packet, format)?))
 }
 
 // Sends the entry and receives what was sent. Whatever is neither out of range nor of a till beyond the hall comes back
@@ -78,5 +79,5 @@ pub fn round_trip(entry: Entry, out: &mut [u8]) -> Result<Option<Entry>, Refusal
     ensures output { out.new ≡ send_output «entry» out.old }
 {
     let len = send(entry, out)?;
-    receive(&out[0..len])
+    receive(&out[..len])
 }

@@ -1,9 +1,10 @@
 -- Reading a text of digits byte by byte, with or without a limit on the number.
-use Rattle.std.proofs.Common.{◌≡◌, ℕ, ◌+◌, ◌*◌, ◌<◌, ◌≤◌, min, true, false, cond, ◌&&◌, eqb, List, [], ◌∷◌, length, get_or, drop, is_some, Some, None, Option, unwrap_or, sym, refl, ap, ◌∙◌, ⊎_elim, le-mul_of_pos_right, arith}
+use Rattle.std.proofs.Common.{◌≡◌, ℕ, ◌+◌, ◌*◌, ◌<◌, ◌≤◌, min, true, false, cond, ◌&&◌, eqb, List, [], ◌∷◌, length, get_or, drop, is_some, Some, None, Option, unwrap_or, sym, refl, ap, ◌∙◌, ap₂, ⊎_elim, le-mul_of_pos_right, arith}
 use Rattle.std.proofs.lemmas.List.{drop_more, drop_all}
 use Rattle.std.proofs.lemmas.Bool.{cases_lt, both_ways}
 use Rattle.std.specs.Option.{option_map}
-use Rattle.text.specs.Digits.{all_digits, value_after, number_of}
+use Rattle.text.specs.Digits.{digit_in, nonempty, all_digits, value_after, number_of}
+use Rattle.text.specs.Hexadecimals.{hex_value_of}
 
 -- what is read of s after the number n
 abbrev pub read_after : ℕ → (ℕ → Option ℕ) → ℕ → List ℕ → Option ℕ
@@ -54,3 +55,19 @@ module _ (base : ℕ) (digit : ℕ → Option ℕ) where
     held_limited n s =
         elim (all_digits digit s) as (λ t. held limit (cond t (Some (value_after base digit (min n limit) s)) None) ≡ held limit (cond t (Some (value_after base digit n s)) None))
         [ true ↦ ap Some (limited n s) | false ↦ refl ]
+
+-- two ways to read a digit that agree at each byte read the same numbers
+module _ (base : ℕ) (f g : ℕ → Option ℕ) (same : (b : ℕ) → f b ≡ g b) where
+  same_digits : (s : List ℕ) → all_digits f s ≡ all_digits g s
+  same_digits [] = refl
+  same_digits (b ∷ s) = ap₂ (λ o t. is_some o && t) (same b) (same_digits s)
+
+  same_value : (n : ℕ) (s : List ℕ) → value_after base f n s ≡ value_after base g n s
+  same_value n [] = refl
+  same_value n (b ∷ s) = ap (λ o. value_after base f (n * base + unwrap_or o 0) s) (same b) ∙ same_value (n * base + unwrap_or (g b) 0) s
+
+  pub same_number : (s : List ℕ) → number_of base f s ≡ number_of base g s
+  same_number s = ap₂ (λ t n. cond (nonempty s && t) (Some n) None) (same_digits s) (same_value 0 s)
+
+pub digit_in_sixteen : (b : ℕ) → digit_in 16 b ≡ hex_value_of b
+digit_in_sixteen b = grind arith

@@ -1,32 +1,36 @@
 -- Where the first piece of a text ends, and what the text is made of then.
-use Rattle.std.proofs.Common.{◌≡◌, ℕ, suc, ◌+◌, ◌-◌, ◌<◌, ◌≤◌, min, true, false, cond, eqb, List, [], ◌∷◌, length, get_or, take, drop, Some, None, Option, sym, refl, ap, ◌∙◌, ap₂, ⊎_elim, arith}
-use Rattle.std.proofs.lemmas.List.{drop_more, drop_all, take_rest}
+use Rattle.std.proofs.Common.{◌≡◌, ℕ, suc, ◌+◌, ◌<◌, ◌≤◌, min, true, false, cond, eqb, ltb, List, [], ◌∷◌, length, take, drop, Some, None, Option, unwrap_or, sym, refl, ap, ◌∙◌, ap₂, ◌⊎◌, ⊎_elim, arith, Bor}
+use Rattle.std.specs.Option.{option_map, MatchOption}
+use Rattle.std.specs.List.{slice_range}
+use Rattle.std.specs.List.{position, position_or_len}
+use Rattle.std.proofs.lemmas.List.{drop_all, take_rest}
+use Rattle.std.proofs.lemmas.List.Recursion.{is_position_or_len}
 use Rattle.std.proofs.lemmas.Bool.{cases_lt}
 use Rattle.text.specs.Lines.{first_piece, after_piece, piece_end_lem, pieces, pieces_after, in_front}
+
+settled : (n m : ℕ) → n ≤ m → unwrap_or (cond (ltb n m) (Some n) None) m ≡ n
+settled n m h = grind arith
 
 module _ (sep : ℕ) where
   abbrev pub piece_length : List ℕ → ℕ
   piece_length s = length (first_piece sep s)
 
-  -- the first piece from the index i on
-  pub length_at_separator : (s : List ℕ) (i : ℕ) → i < length s → true ≡ eqb (get_or s i 0) sep → piece_length (drop i s) ≡ 0
-  length_at_separator s i h e =
-      ap piece_length (drop_more s i 0 h)
-      ∙ ap (λ t. length (cond t [] (get_or s i 0 ∷ first_piece sep (drop (i + 1) s)))) (sym e)
+  -- the first piece ends at the first separator
+  pub piece_length_is : (s : List ℕ) → piece_length s ≡ position_or_len (λ b. eqb b sep) s
+  piece_length_is = is_position_or_len piece_length (λ b. eqb b sep) refl (λ b s. elim (eqb b sep) as (λ t. length (cond t [] (b ∷ first_piece sep s)) ≡ cond t 0 (1 + piece_length s)) [ true ↦ refl | false ↦ omega arith ])
 
-  pub length_at_other : (s : List ℕ) (i : ℕ) → i < length s → false ≡ eqb (get_or s i 0) sep → piece_length (drop i s) ≡ suc (piece_length (drop (i + 1) s))
-  length_at_other s i h e =
-      ap piece_length (drop_more s i 0 h)
-      ∙ ap (λ t. length (cond t [] (get_or s i 0 ∷ first_piece sep (drop (i + 1) s)))) (sym e)
+  pub piece_within : (s : List ℕ) → piece_length s ≤ length s
+  piece_within [] = omega arith
+  piece_within (b ∷ s) = elim (eqb b sep) as (λ t. length (cond t [] (b ∷ first_piece sep s)) ≤ suc (length s)) [ true ↦ omega arith | false ↦ omega (arith, piece_within s) ]
 
-  pub length_at_end : (s : List ℕ) (i : ℕ) → length s ≤ i → piece_length (drop i s) ≡ 0
-  length_at_end s i h = ap piece_length (drop_all i s h)
+  pub position_is : (s : List ℕ) → unwrap_or (position (λ b. eqb b sep) s) (length s) ≡ piece_length s
+  position_is s = rw (sym (piece_length_is s)) (settled (piece_length s) (length s) (piece_within s))
 
   -- an index beyond the text is its end
   pub piece_end_from : (s : List ℕ) (i from : ℕ) → i ≡ min from (length s) → i + piece_length (drop i s) ≡ piece_end_lem sep s from
   piece_end_from s i from e =
       ⊎_elim
-      (λ (h : length s < from). omega (arith, length_at_end s i (omega arith), length_at_end s from (omega arith)))
+      (λ (h : length s < from). let same : drop i s ≡ drop from s = drop_all i s (omega arith) ∙ sym (drop_all from s (omega arith)) in omega (arith, ap piece_length same))
       (λ (h : from ≤ length s). let same : i ≡ from = omega arith in omega (arith, ap (λ n. piece_length (drop n s)) same))
       (cases_lt (length s) from)
 
@@ -60,13 +64,12 @@ module _ (sep : ℕ) where
 
 -- a text that is cut at n, where its first piece ends
 module _ (sep : ℕ) (s : List ℕ) (n : ℕ) (ends : n ≡ piece_end_lem sep s 0) where
-  pub piece_is : take (n - 0) s ≡ first_piece sep s
-  piece_is = let same : n - 0 ≡ piece_length sep s = omega arith in ap (λ i. take i s) same ∙ take_piece sep s
+  pub piece_is : take n s ≡ first_piece sep s
+  piece_is = let same : n ≡ piece_length sep s = omega arith in ap (λ i. take i s) same ∙ take_piece sep s
 
-  pub rest_inside : n < length s → Some (take (length s - (n + 1)) (drop (n + 1) s)) ≡ after_piece sep s
-  rest_inside h =
+  -- what stands after the separator, if there is one
+  pub rest_is : (o : Option (Bor (List ℕ))) → MatchOption o ((length s < n + 1) ⊎ (length s < length s)) (λ t. (n + 1 ≤ length s) × (length s ≤ length s) × (t.now ≡ slice_range s (n + 1) (length s)) × (length t.now + (n + 1) ≡ length s)) → option_map (λ t. t.now) o ≡ after_piece sep s
+  rest_is None h = sym (after_end sep s (omega arith))
+  rest_is (Some t) h =
       let next : n + 1 ≡ suc (piece_length sep s) = omega arith in
-      ap Some (take_rest s (n + 1) ∙ ap (λ i. drop i s) next) ∙ sym (after_inside sep s (omega arith))
-
-  pub rest_end : length s ≤ n → None ≡ after_piece sep s
-  rest_end h = sym (after_end sep s (omega arith))
+      ap Some (h.2 ∙ take_rest s (n + 1) ∙ ap (λ i. drop i s) next) ∙ sym (after_inside sep s (omega arith))

@@ -1,7 +1,8 @@
 // Hexadecimal digits and numbers, read and written.
 ghost use Rattle.std.specs.Prelude.{◌≡◌, ℕ, [], ◌∷◌, ◌++◌, take, is_ok, if◌then◌else◌, string_bytes, OnOk};
-ghost use Rattle.text.specs.Hexadecimals.{hex_digit_of, hexed, hex_value_of, hex_number_of};
+ghost use Rattle.text.specs.Hexadecimals.{hex_digit_of, hexed, hex_number_of};
 
+use crate::number::number;
 use std::alloc::AllocError;
 
 // The lower case digit of the low four bits.
@@ -33,43 +34,28 @@ pub fn push_hex(out: &mut String, bytes: &[u8]) -> Result<(), AllocError>
     Ok(())
 }
 
-// The value of a digit in either case.
-pub fn from_hex_digit(b: u8) -> Option<u8>
-    ensures { result ≡ hex_value_of b }
-{
-    match b {
-        b'0'..=b'9' => Some(b - b'0'),
-        b'A'..=b'F' => Some(b - b'A' + 10),
-        b'a'..=b'f' => Some(b - b'a' + 10),
-        _ => None,
-    }
-}
-
 // The number that one to four digits in either case write.
 pub fn hex_number(text: &[u8]) -> Option<u16>
     ensures { result ≡ hex_number_of text.now }
 {
-    if text.is_empty() || text.len() > 4 {
+    if text.len() > 4 {
         return None;
     }
-    let mut number = 0;
-    for b in text {
-        number = number * 16 + u16::from(from_hex_digit(*b)?);
-    }
-    Some(number)
+    u16::try_from(number::<16>(text)?).ok()
 }
 
 #[cfg(test)]
 mod tests {
     use super::*;
+    use crate::number::digit;
     use std::test::Fail;
 
     #[test]
     fn digits(rt: HostRuntime) {
         assert_eq!(rt; hex_digit(9), b'9');
         assert_eq!(rt; hex_digit(0xfa), b'a');
-        assert_eq!(rt; from_hex_digit(b'F'), Some(15));
-        assert_eq!(rt; from_hex_digit(b'g'), None);
+        assert_eq!(rt; digit::<16>(b'F'), Some(15));
+        assert_eq!(rt; digit::<16>(b'g'), None);
     }
 
     #[test]

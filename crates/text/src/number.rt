@@ -1,57 +1,53 @@
 // Decimal numbers, read from the bytes of a text.
-ghost use Rattle.std.specs.Prelude.{◌≡◌, ◌+◌, ◌-◌, ◌*◌, ◌^◌, min, pos, neg_ℤ};
-ghost use Rattle.std.specs.Int.{saturate_to_bits};
+ghost use Rattle.std.specs.Prelude.{◌≡◌, ◌+◌, ◌-◌, ◌*◌, ◌^◌, ◌<◌, min};
 ghost use Rattle.text.specs.Decimals.{digit_of, decimal_of, signed_of};
+ghost use Rattle.text.specs.Digits.{digit_in, limited_number};
+ghost use Rattle.text.specs.Hexadecimals.{hex_value_of};
 
-// The value of an ASCII decimal digit.
-pub fn digit(b: u8) -> Option<u8>
-    ensures { result ≡ digit_of b }
+// The value of an ASCII digit of a base up to 36, in either case.
+pub fn digit<const BASE: u8>(b: u8) -> Option<u8>
+    ensures value { result ≡ digit_in BASE b }
+    ensures ten { BASE ≡ 10 → result ≡ digit_of b }
+    ensures sixteen { BASE ≡ 16 → result ≡ hex_value_of b }
 {
-    match b {
-        b'0'..=b'9' => Some(b - b'0'),
-        _ => None,
-    }
+    let value = match b {
+        b'0'..=b'9' => b - b'0',
+        b'A'..=b'Z' => b - b'A' + 10,
+        b'a'..=b'z' => b - b'a' + 10,
+        _ => return None,
+    };
+    (value < BASE).then_some(value)
 }
 
 // The number with one more digit written after it, at most the greatest `u64`.
-fn followed(number: u64, digit: u8) -> u64
-    ensures { result ≡ min (number * 10 + digit) (2 ^ 64 - 1) }
+fn followed<const BASE: u8>(number: u64, digit: u8) -> u64
+    ensures { result ≡ min (number * BASE + digit) (2 ^ 64 - 1) }
 {
-    number.saturating_mul(10).saturating_add(u64::from(digit))
+    number
+        .saturating_mul(u64::from(BASE))
+        .saturating_add(u64::from(digit))
 }
 
-// The number that a text of decimal digits alone writes, at most the greatest `u64`.
-pub fn decimal(text: &[u8]) -> Option<u64>
-    ensures { result ≡ decimal_of text.now }
+// The number that a text of digits alone writes, at most the greatest `u64`.
+pub fn number<const BASE: u8>(text: &[u8]) -> Option<u64>
+    requires { 0 < BASE }
+    ensures { result ≡ limited_number BASE (digit_in BASE) text.now }
 {
     if text.is_empty() {
         return None;
     }
     let mut number = 0;
     for b in text {
-        number = followed(number, digit(*b)?);
+        number = followed::<BASE>(number, digit::<BASE>(*b)?);
     }
     Some(number)
 }
 
-// The `i64` nearest to a number.
-fn nearest(number: u64) -> i64
-    ensures { result ≡ saturate_to_bits 63 (pos number) }
+// The number that a text of decimal digits alone writes, at most the greatest `u64`.
+pub fn decimal(text: &[u8]) -> Option<u64>
+    ensures { result ≡ decimal_of text.now }
 {
-    match i64::try_from(number) {
-        Ok(n) => n,
-        Err(_) => i64::MAX,
-    }
-}
-
-// The `i64` nearest to a number with a minus sign.
-fn nearest_negated(number: u64) -> i64
-    ensures { result ≡ saturate_to_bits 63 (neg_ℤ (pos number)) }
-{
-    match i64::try_from(number) {
-        Ok(n) => -n,
-        Err(_) => i64::MIN,
-    }
+    number::<10>(text)
 }
 
 // The number that a text of decimal digits, with or without one '-' in front, writes: the nearest `i64` to it.
@@ -59,8 +55,8 @@ pub fn signed(text: &[u8]) -> Option<i64>
     ensures { result ≡ signed_of text.now }
 {
     match text {
-        [b'-', digits @ ..] => Some(nearest_negated(decimal(digits)?)),
-        _ => Some(nearest(decimal(text)?)),
+        [b'-', digits @ ..] => Some(0i64.saturating_sub_unsigned(decimal(digits)?)),
+        _ => Some(0i64.saturating_add_unsigned(decimal(text)?)),
     }
 }
 
@@ -70,8 +66,8 @@ mod tests {
 
     #[test]
     fn digits_and_decimals(rt: HostRuntime) {
-        assert_eq!(rt; digit(b'7'), Some(7));
-        assert_eq!(rt; digit(b'a'), None);
+        assert_eq!(rt; digit::<10>(b'7'), Some(7));
+        assert_eq!(rt; digit::<10>(b'a'), None);
         assert_eq!(rt; decimal(b"007"), Some(7));
         assert_eq!(rt; decimal(b"18446744073709551615"), Some(u64::MAX));
         assert_eq!(rt; decimal(b"18446744073709551616"), Some(u64::MAX));

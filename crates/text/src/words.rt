@@ -1,13 +1,14 @@
 // The words of a line and the lines of a text: pieces, which single separator bytes part.
-ghost use Rattle.std.specs.Prelude.{◌≡◌, ◌<◌, ◌≤◌, ◌∷◌, length, IfSome, ◌==◌};
+ghost use Rattle.std.specs.Prelude.{◌≡◌, ◌<◌, ◌≤◌, ◌∷◌, length, IfSome, ◌==◌, position};
 ghost use Rattle.std.specs.Option.{option_map};
+ghost use Rattle.std.specs.Iterator.{YieldsFirstRef, item_count};
 ghost use Rattle.text.specs.Lines.{first_piece, after_piece, piece_end_lem, pieces, pieces_after, words, three, lines, line_split, lines_from};
 
-// Whether a byte parts two pieces.
-fn parts(b: u8, separator: u8) -> bool
-    ensures { result ≡ (b == separator) }
+// The index of the first separator of a text.
+fn separator_in(text: &[u8], separator: u8) -> Option<usize>
+    ensures { result ≡ position (λ b. b == separator) text.now }
 {
-    b == separator
+    text.iter().position(|b| *b == separator)
 }
 
 // The index of the first separator at or after `from`, or the text's length where there is none.
@@ -16,11 +17,9 @@ pub fn piece_end(text: &[u8], from: usize, separator: u8) -> usize
     ensures within { result ≤ length text.now }
     ensures onward { from ≤ length text.now → from ≤ result }
 {
-    let mut end = from.min(text.len());
-    while end < text.len() && !parts(text[end], separator) {
-        end += 1;
-    }
-    end
+    let start = from.min(text.len());
+    let rest = &text[start..];
+    start + separator_in(rest, separator).unwrap_or(rest.len())
 }
 
 // The first piece of a text and what follows the separator after it, if there is a separator.
@@ -31,15 +30,10 @@ pub fn split_piece(text: &[u8], separator: u8) -> (&[u8], Option<&[u8]>)
     ensures pieces { pieces separator text.now ≡ result.0.now ∷ pieces_after separator (option_map (λ x. x.now) result.1) }
 {
     let end = piece_end(text, 0, separator);
-    let piece = &text[0..end];
-    if end < text.len() {
-        (piece, Some(&text[end + 1..]))
-    } else {
-        (piece, None)
-    }
+    (&text[..end], text.get(end + 1..))
 }
 
-// The words of a text that has three.
+// The words of a text that has three. A tuple: an array of N words that a loop fills gets no generated proof.
 pub fn three_words(text: &[u8]) -> Option<(&[u8], &[u8], &[u8])>
     ensures { option_map (λ t. (t.0.now, t.1.now, t.2.now)) result ≡ three (words text.now) }
 {
@@ -63,6 +57,34 @@ pub fn split_line(text: &[u8]) -> Option<(&[u8], &[u8])>
     }
     let (line, rest) = split_piece(text, b'\n');
     Some((line, rest.unwrap_or(&[])))
+}
+
+// The lines of a text that are still to come.
+#[derive(Drop)]
+pub struct Lines<'a> {
+    rest: &'a [u8],
+}
+
+impl<'a> Lines<'a> {
+    pub fn of(text: &'a [u8]) -> Lines<'a>
+        ensures { result.rest.now ≡ text.now }
+    {
+        Lines { rest: text }
+    }
+}
+
+impl<'a> Iterator for Lines<'a> {
+    type Item = &'a [u8];
+
+    ghost next_gives = { YieldsFirstRef (λ s. lines s.rest.now) };
+
+    ghost remaining = { item_count (λ s. lines s.rest.now) };
+
+    fn next(&mut self) -> Option<&'a [u8]> {
+        let (line, rest) = split_line(self.rest)?;
+        self.rest = rest;
+        Some(line)
+    }
 }
 
 #[cfg(test)]
@@ -107,5 +129,14 @@ mod tests {
         assert_eq!(rt; split_line(b"a\nb"), Some((&b"a"[..], &b"b"[..])));
         assert_eq!(rt; split_line(b"b"), Some((&b"b"[..], &b""[..])));
         assert_eq!(rt; split_line(b"\n\n"), Some((&b""[..], &b"\n"[..])));
+    }
+
+    #[test]
+    fn lines_in_turn(rt: HostRuntime) {
+        let mut lines = Lines::of(b"a\n\nb");
+        assert_eq!(rt; lines.next(), Some(&b"a"[..]));
+        assert_eq!(rt; lines.next(), Some(&b""[..]));
+        assert_eq!(rt; lines.next(), Some(&b"b"[..]));
+        assert_eq!(rt; lines.next(), None);
     }
 }

@@ -1,42 +1,31 @@
--- Each turn reads one digit; the loop ends with the text, or at a byte that is no digit.
-use Rattle.std.proofs.Common.{◌≡◌, ℕ, ◌+◌, ◌*◌, ◌^◌, ◌<◌, ◌≤◌, get_or, drop, Some, sym, ap, ◌∙◌, add-one, arith}
-use native.Mathlib.Nat.{pow-le-pow_right, pow-succ'}
-use Rattle.std.proofs.lemmas.Bool.Decides.{nat_tests}
-use Rattle.text.specs.Hexadecimals.{hex_value_of}
-use Rattle.text.proofs.Numerals.{read_after, read_none, read_some, read_all}
+-- Four digits write a number below 2 ^ 16.
+use Rattle.std.proofs.Common.{◌≡◌, ℕ, ◌<◌, ◌≤◌, ◌-◌, ◌^◌, min, Bool, true, false, cond, ◌&&◌, leb, List, [], ◌∷◌, length, Some, None, unwrap_or, sym, ap, ◌∙◌, arith, rules}
+use Rattle.std.proofs.lemmas.Bool.{cond-true, le-leb}
+use Rattle.std.specs.Option.{option_map}
+use Rattle.text.specs.Digits.{digit_in, nonempty, all_digits, value_after, limited_number}
+use Rattle.text.specs.Hexadecimals.{hex_value_of, hex_number_of}
+use Rattle.text.proofs.Numerals.{digit_in_sixteen, same_number}
 use Rattle.text.proofs.hex.hex_number.Goals as goal
 
-small : (b d : ℕ) → Some d ≡ hex_value_of b → d < 16
-small b d e = grind (arith, nat_tests)
+digit_below : (b : ℕ) → unwrap_or (hex_value_of b) 0 < 16
+digit_below b = grind arith
 
-at_most : (n i : ℕ) → n < 16 ^ i → i < 4 → n < 4096
-at_most n i h l = let p : i ≤ 3 = omega arith in omega (arith, pow-le-pow_right {n = 16} (omega arith) {i = i} {j = 3} p)
+four_below : (s : List ℕ) → length s ≤ 4 → value_after 16 hex_value_of 0 s < 65536
+four_below [] h = omega arith
+four_below (a ∷ []) h = omega (arith, digit_below a)
+four_below (a ∷ b ∷ []) h = omega (arith, digit_below a, digit_below b)
+four_below (a ∷ b ∷ c ∷ []) h = omega (arith, digit_below a, digit_below b, digit_below c)
+four_below (a ∷ b ∷ c ∷ d ∷ []) h = omega (arith, digit_below a, digit_below b, digit_below c, digit_below d)
+four_below (a ∷ b ∷ c ∷ d ∷ e ∷ s) h = absurd (omega arith)
 
-longer : (n i d : ℕ) → n < 16 ^ i → d < 16 → n * 16 + d < 16 ^ (i + 1)
-longer n i d h l = rw (add-one, pow-succ') (omega arith)
-
-pub overflow_mul-number : goal.overflow_mul-number
-overflow_mul-number c = omega (arith, at_most c.loop-b.number c.loop-b.b-index c.loop-b.invariant.0 (omega arith))
-
-pub overflow_add-number : goal.overflow_add-number
-overflow_add-number c =
-    omega (arith, at_most c.loop-b.number c.loop-b.b-index c.loop-b.invariant.0 (omega arith), small (get_or c.args.text.now c.loop-b.b-index 0) c.in_ok-from_hex_digit.field-0 c.in_ok-from_hex_digit.ensures)
-
-pub loop-b-preserved : goal.loop-b-preserved
-loop-b-preserved c =
-    let digit = c.in_ok-from_hex_digit.field-0 in
-    let reads = read_some 16 hex_value_of c.loop-b.number c.args.text.now c.loop-b.b-index digit c.loop-b-test.true c.in_ok-from_hex_digit.ensures in
-    let e : c.from.result ≡ digit = c.from.ensures in (
-      longer c.loop-b.number c.loop-b.b-index c.from.result c.loop-b.invariant.0 (omega (arith, small (get_or c.args.text.now c.loop-b.b-index 0) c.in_ok-from_hex_digit.field-0 c.in_ok-from_hex_digit.ensures)),
-      ap (λ d. read_after 16 hex_value_of (c.loop-b.number * 16 + d) (drop (c.loop-b.b-index + 1) c.args.text.now)) e
-          ∙ sym reads
-          ∙ c.loop-b.invariant.1,
-    )
-
-pub returns-in_err-from_hex_digit : goal.returns-in_err-from_hex_digit
-returns-in_err-from_hex_digit c =
-    let stops = read_none 16 hex_value_of c.loop-b.number c.args.text.now c.loop-b.b-index c.loop-b-test.true c.in_err-from_hex_digit.ensures in
-    c.from_residual.ensures ∙ sym stops ∙ c.loop-b.invariant.1
+number_is : (s : List ℕ) (n : ℕ) → length s ≤ 4 → Some n ≡ limited_number 16 (digit_in 16) s → (n < 65536) × (Some n ≡ hex_number_of s)
+number_is s n h e =
+    let read = go (nonempty s && all_digits hex_value_of s) (value_after 16 hex_value_of 0 s) (four_below s h) (e ∙ ap (option_map (λ k. min k (2 ^ 64 - 1))) (same_number 16 (digit_in 16) hex_value_of digit_in_sixteen s)) in
+    (read.0, read.1 ∙ sym (cond-true (leb (length s) 4) _ _ (le-leb _ _ h)))
+  where
+    go : (b : Bool) (v : ℕ) → v < 65536 → Some n ≡ option_map (λ k. min k (2 ^ 64 - 1)) (cond b (Some v) None) → (n < 65536) × (Some n ≡ cond b (Some v) None)
+    go true v l e = let q : n ≡ min v (2 ^ 64 - 1) = cc in (omega arith, ap Some (omega arith))
+    go false v l e = absurd (let z : ◌≡◌ {A = ℕ} 0 1 = cc in omega arith)
 
 pub returns : goal.returns
-returns c = sym (read_all 16 hex_value_of c.loop-b.number c.args.text.now c.loop-b.b-index c.loop-b-test.false) ∙ c.loop-b.invariant.1
+returns c = let n = number_is c.args.text.now c.in_ok-number.field-0 (omega arith) c.in_ok-number.ensures in search (rules, n)

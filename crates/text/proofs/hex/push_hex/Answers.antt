@@ -1,7 +1,6 @@
--- Each turn appends the two digits of one byte; where memory runs out, a front of all the digits stands there.
-use Rattle.std.proofs.Common.{◌≡◌, ℕ, ◌+◌, ◌/◌, ◌<◌, List, [], ◌∷◌, ◌++◌, length, get_or, take, drop, string_bytes, sym, refl, ap, ◌∙◌, append_assoc, append-nil, take-append-drop}
-use Rattle.std.proofs.lemmas.List.{take_at, take_all, take_more, drop_more}
-use Rattle.std.proofs.lemmas.Result.{IfOk-from_err}
+-- Where memory runs out, a front of all the digits stands there.
+use Rattle.std.proofs.Common.{◌≡◌, ℕ, ◌+◌, ◌/◌, ◌<◌, List, [], ◌∷◌, ◌++◌, length, get_or, take, drop, string_bytes, sym, refl, ap, ◌∙◌, append_assoc, take-append-drop}
+use Rattle.std.proofs.lemmas.List.{take_at, drop_more}
 use Rattle.std.specs.List.{flat_map}
 use Rattle.text.specs.Hexadecimals.{hex_digit_of, hex_pair, hexed}
 use Rattle.text.proofs.hex.push_hex.Goals as goal
@@ -33,32 +32,10 @@ module _ (old s : List ℕ) (i : ℕ) (inside : i < length s) (was : List ℕ) (
     only_high : (out : List ℕ) → out ≡ half → (k : ℕ) × (out ≡ old ++ take k (hexed s))
     only_high out e = front_of old s _ _ out (e ∙ one_more) (at_byte ∙ sym (append_assoc (hexed (take i s)) (hex_digit_of (get_or s i 0 / 16) ∷ []) _))
 
-    both : (out : List ℕ) → out ≡ half ++ hex_digit_of (get_or s i 0) ∷ [] → out ≡ old ++ hexed (take (i + 1) s)
-    both out low =
-        low
-        ∙ ap (λ t. t ++ hex_digit_of (get_or s i 0) ∷ []) one_more
-        ∙ append_assoc old (hexed (take i s) ++ hex_digit_of (get_or s i 0 / 16) ∷ []) _
-        ∙ ap (λ t. old ++ t) (append_assoc (hexed (take i s)) (hex_digit_of (get_or s i 0 / 16) ∷ []) _ ∙ sym (ap hexed (take_more s i 0 inside) ∙ joined_append hex_pair (take i s) (get_or s i 0 ∷ [])))
+pub returns-in_err-push_digit-clause-front : goal.returns-in_err-push_digit-clause-front
+returns-in_err-push_digit-clause-front c =
+    none_more (string_bytes c.args.out.now) c.args.bytes.now c.loop-b.b-index c.loop-b-test.true (string_bytes c.loop-b.out) c.loop-b.invariant (string_bytes c.push_digit.new.out) c.in_err-push_digit.ensures
 
-pub loop-b-preserved : goal.loop-b-preserved
-loop-b-preserved c =
-    both (string_bytes c.args.out.now) c.args.bytes.now c.loop-b.b-index c.loop-b-test.true (string_bytes c.loop-b.out) c.loop-b.invariant (string_bytes c.push_digit.new.out) c.in_ok-push_digit.ensures (string_bytes c.push_digit-in-loop-b.new.out) c.in_ok-push_digit-2.ensures
-
-pub returns-in_err-push_digit : goal.returns-in_err-push_digit
-returns-in_err-push_digit c =
-    record {
-      ok = IfOk-from_err c.from_residual.result _ c.from_residual.ensures.0;
-      front = none_more (string_bytes c.args.out.now) c.args.bytes.now c.loop-b.b-index c.loop-b-test.true (string_bytes c.loop-b.out) c.loop-b.invariant (string_bytes c.push_digit.new.out) c.in_err-push_digit.ensures;
-    }
-
-pub returns-in_err-push_digit-2 : goal.returns-in_err-push_digit-2
-returns-in_err-push_digit-2 c =
-    record {
-      ok = IfOk-from_err c.from_residual-in_err-push_digit-2.result _ c.from_residual-in_err-push_digit-2.ensures.0;
-      front = only_high (string_bytes c.args.out.now) c.args.bytes.now c.loop-b.b-index c.loop-b-test.true (string_bytes c.loop-b.out) c.loop-b.invariant (string_bytes c.push_digit.new.out) c.in_ok-push_digit.ensures (string_bytes c.push_digit-in-loop-b.new.out) c.in_err-push_digit-2.ensures;
-    }
-
-pub returns : goal.returns
-returns c =
-    let all = c.loop-b.invariant ∙ ap (λ t. string_bytes c.args.out.now ++ hexed t) (take_all c.loop-b.b-index c.args.bytes.now c.loop-b-test.false) in
-    record { ok = all; front = front_of (string_bytes c.args.out.now) c.args.bytes.now (hexed c.args.bytes.now) [] (string_bytes c.loop-b.out) all (sym (append-nil _)) }
+pub returns-in_err-push_digit-2-clause-front : goal.returns-in_err-push_digit-2-clause-front
+returns-in_err-push_digit-2-clause-front c =
+    only_high (string_bytes c.args.out.now) c.args.bytes.now c.loop-b.b-index c.loop-b-test.true (string_bytes c.loop-b.out) c.loop-b.invariant (string_bytes c.push_digit.new.out) c.in_ok-push_digit.ensures (string_bytes c.push_digit-in-loop-b.new.out) c.in_err-push_digit-2.ensures

@@ -1,6 +1,6 @@
 -- The lines of a text are its first line and the lines of what follows that line's line feed.
-use Rattle.std.proofs.Common.{◌≡◌, ℕ, ◌<◌, true, false, cond, eqb, List, [], ◌∷◌, length, IfSome, Some, None, Option, unwrap_or, sym, refl, ap, ◌∙◌, ap₂, arith, Bor}
-use Rattle.std.proofs.lemmas.Bool.{eqb-true, eqb-false}
+use Rattle.std.proofs.Common.{◌≡◌, ◌≢◌, ℕ, true, false, cond, eqb, List, [], ◌∷◌, length, Some, None, Option, unwrap_or, sym, refl, ap, ◌∙◌, ap₂, arith, Bor}
+use Rattle.std.proofs.lemmas.Bool.{eqb-false}
 use Rattle.std.specs.Option.{option_map}
 use Rattle.text.specs.Lines.{first_piece, after_piece, pieces, pieces_after, in_front, trimmed, lines, line_split, lines_from}
 use Rattle.text.proofs.Splits.{pieces_split}
@@ -22,35 +22,17 @@ lines_split (b ∷ s) =
       | false ↦ ap (λ ws. trimmed (in_front b ws)) (pieces_split 10 s) ∙ before_rest b (first_piece 10 s) (after_piece 10 s)
     ]
 
-no_line : (s : List ℕ) → length s ≡ 0 → None ≡ line_split s
-no_line [] h = refl
-no_line (b ∷ s) h = absurd (omega arith)
-
-first_line : (s line rest : List ℕ) → 0 < length s → line ≡ first_piece 10 s → rest ≡ unwrap_or (after_piece 10 s) [] → Some (line, rest) ≡ line_split s
-first_line [] line rest h p q = absurd (omega arith)
-first_line (b ∷ s) line rest h p q = ap₂ (λ x y. Some (x, y)) p q
+lines_of : (s line rest : List ℕ) → length s ≢ 0 → line ≡ first_piece 10 s → rest ≡ unwrap_or (after_piece 10 s) [] → lines s ≡ line ∷ lines rest
+lines_of [] line rest h p q = absurd (omega arith)
+lines_of (b ∷ s) line rest h p q = lines_split (b ∷ s) ∙ ap₂ (λ x y. x ∷ lines y) (sym p) (sym q)
 
 -- what is left after the first line: nothing where no line feed ends it
 rest_is : (o : Option (Bor (List ℕ))) (none : Bor (List ℕ)) → none.now ≡ [] → (unwrap_or o none).now ≡ unwrap_or (option_map (λ x. x.now) o) []
 rest_is None none e = e
 rest_is (Some t) none e = refl
 
-rest_shorter : (n : ℕ) (o : Option (Bor (List ℕ))) → 0 < n → IfSome o (λ t. length t.now < n) → length (unwrap_or (option_map (λ x. x.now) o) []) < n
-rest_shorter n None h l = h
-rest_shorter n (Some t) h l = l
-
-pub returns-then-is_empty : goal.returns-then-is_empty
-returns-then-is_empty c =
-    let value = no_line c.args.text.now (eqb-true _ _ (sym c.if-is_empty.ensures)) in
-    record { value = value; shorter = tt; lines = lines_split c.args.text.now ∙ ap lines_from (sym value) }
-
-pub returns : goal.returns
-returns c =
-    let some : 0 < length c.args.text.now = omega (arith, eqb-false _ _ (sym c.if-is_empty.ensures)) in
-    let rest = ap (λ x. x.now) c.unwrap_or.ensures ∙ rest_is c.split_piece.result.1 _ refl in
-    let value = first_line c.args.text.now c.split_piece.result.0.now c.unwrap_or.result.now some c.split_piece.ensures.piece (rest ∙ ap (λ o. unwrap_or o []) c.split_piece.ensures.rest) in
-    record {
-      value = value;
-      shorter = omega (arith, ap length rest, rest_shorter (length c.args.text.now) c.split_piece.result.1 some c.split_piece.ensures.shorter);
-      lines = lines_split c.args.text.now ∙ ap lines_from (sym value);
-    }
+pub returns-clause-lines : goal.returns-clause-lines
+returns-clause-lines c =
+    let s = c.args.text.now in
+    let rest = ap (λ x. x.now) c.unwrap_or.ensures ∙ rest_is c.split_piece.result.1 _ refl ∙ ap (λ o. unwrap_or o []) c.split_piece.ensures.rest in
+    lines_of s _ _ (eqb-false _ _ (sym c.if-is_empty.ensures)) c.split_piece.ensures.piece rest
