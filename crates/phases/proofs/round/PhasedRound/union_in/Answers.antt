@@ -1,8 +1,8 @@
 -- The union by which of the two masks has a member.
-use Rattle.std.proofs.Common.{◌≡◌, ℕ, ◌+◌, cond, leb, ◌∙◌, ap₂}
+use Rattle.std.proofs.Common.{ℕ, ◌+◌, cond, leb, ◌∙◌, ap₂}
 use Rattle.basis.proofs.Counts.{count_cong}
 use Rattle.phases.specs.Steps.{union}
-use Rattle.phases.proofs.round.PhasedRound.union_under.Goals as goal
+use Rattle.phases.proofs.round.PhasedRound.union_in.Goals as goal
 
 pub returns : goal.returns
 unfolding union
