@@ -2,10 +2,12 @@
 #![tactic(auto)]
 
 pub mod counting;
+#[cfg(test)]
+mod endings;
 pub mod hearing;
+pub mod phased;
 pub mod recording;
 pub mod round;
 pub mod steps;
-pub mod three_phase;
-pub mod two_phase;
+pub mod vote_phase;
 pub mod votes;
