@@ -6,7 +6,7 @@ ghost use Rattle.messages.specs.Tags.{bits_number};
 ghost use Rattle.phases.specs.Records.{meaning_of};
 ghost use Rattle.openings.specs.Openings.{admits, supports, ready_to_leave, tally};
 
-use basis::replicas::{ReplicaSet, has_honest_in, is_quorum_in};
+use basis::replicas::{ReplicaSet, has_honest, is_quorum, size_in};
 use messages::message::BitSet;
 use phases::counting::{Counted, where_set};
 use phases::round::PhasedRound;
@@ -23,7 +23,7 @@ pub fn has_proposed_one(round: &PhasedRound) -> bool
 pub fn admits_one(round: &PhasedRound, n: u8) -> bool
     ensures { result ≡ admits n (meaning_of round.now) 2 }
 {
-    has_proposed_one(round) | has_honest_in(round.first.one, n)
+    has_proposed_one(round) | has_honest(size_in(round.first.one, n), n)
 }
 
 // The second votes for admitted bits. Not `count_votes` of a later round, which admits otherwise and counts votes for both.
@@ -52,9 +52,9 @@ pub fn tally_of(round: &PhasedRound, n: u8) -> BitSet
     ensures { bits_number result ≡ tally n (meaning_of round.now) }
 {
     let counted = supporters(round, n);
-    if is_quorum_in(counted.zero, n) {
+    if is_quorum(size_in(counted.zero, n), n) {
         BitSet::Zero
-    } else if is_quorum_in(counted.one, n) {
+    } else if is_quorum(size_in(counted.one, n), n) {
         BitSet::One
     } else {
         BitSet::Both

@@ -8,7 +8,7 @@ ghost use Rattle.openings.specs.Openings.{join_one, admit, leave, opening_steps,
 use crate::admitting::{may_leave_by, tally_of};
 use crate::proposing::vote_for_one;
 use basis::member::Member;
-use basis::replicas::{contains, has_honest_in};
+use basis::replicas::{contains, has_honest, size_in};
 use messages::message::BitSet;
 use phases::round::PhasedRound;
 use phases::vote_phase::VotePhase;
@@ -18,7 +18,7 @@ pub fn may_join_one(round: &PhasedRound, member: Member) -> bool
     ensures { result ≡ (join_one member.n member.own).applies (meaning_of round.now) }
 {
     round.is_entered()
-        & (has_honest_in(round.first.one, member.n)
+        & (has_honest(size_in(round.first.one, member.n), member.n)
             & (!contains(round.first.one, member.own)
                 | !round.has_voted(VotePhase::Second, member.own)))
 }

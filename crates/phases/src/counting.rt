@@ -9,7 +9,7 @@ ghost use Rattle.phases.specs.Steps.{admitted, counted, enough, union};
 
 use crate::round::PhasedRound;
 use crate::vote_phase::VotePhase;
-use basis::replicas::{ReplicaSet, is_quorum_in, size_in};
+use basis::replicas::{ReplicaSet, is_quorum, size_in};
 use messages::message::BitSet;
 
 // Whose counted votes hold 0, and whose hold 1.
@@ -32,7 +32,7 @@ impl PhasedRound {
     pub fn admits(&self, n: u8, bit: bool) -> bool
         ensures { result ≡ admitted n (meaning_of self.now) (bit_set bit) }
     {
-        is_quorum_in(self.first.cast_for(BitSet::from(bit)), n)
+        is_quorum(size_in(self.first.cast_for(BitSet::from(bit)), n), n)
     }
 
     // The votes of a phase that lie within the set of admitted bits.
@@ -57,7 +57,7 @@ impl Counted {
     pub fn is_enough(self, n: u8) -> bool
         ensures { result ≡ nat_le (quorum n) (count n (λ j. has self.zero j || has self.one j)) }
     {
-        is_quorum_in(self.zero | self.one, n)
+        is_quorum(size_in(self.zero | self.one, n), n)
     }
 
     // The union of them; none where there are none.

@@ -9,7 +9,7 @@ ghost use Rattle.phases.specs.Steps.{join, second, third, conclude, is_entered_l
 use crate::round::PhasedRound;
 use crate::vote_phase::VotePhase;
 use basis::member::Member;
-use basis::replicas::{contains, has_honest_in};
+use basis::replicas::{contains, has_honest, size_in};
 use messages::message::BitSet;
 
 impl PhasedRound {
@@ -18,7 +18,7 @@ impl PhasedRound {
         ensures { result ≡ (join member.n member.own (bit_set bit)).applies (meaning_of self.now) }
     {
         let cast = self.first.cast_for(BitSet::from(bit));
-        self.is_entered() & (has_honest_in(cast, member.n) & !contains(cast, member.own))
+        self.is_entered() & (has_honest(size_in(cast, member.n), member.n) & !contains(cast, member.own))
     }
 
     // Says the first vote that f + 1 replicas have cast.
