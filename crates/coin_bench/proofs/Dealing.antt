@@ -1,5 +1,5 @@
 -- Turns of the bench's loops. Assumes nothing.
-use Rattle.std.proofs.Common.{◌≡◌, ℕ, suc, ◌+◌, ◌-◌, ◌*◌, ◌%◌, ◌^◌, ◌<◌, ◌≤◌, sym, refl, ap, ◌∙◌, subst, pow-suc, add-one, arith}
+use Rattle.std.proofs.Common.{◌≡◌, ℕ, suc, ◌+◌, ◌-◌, ◌*◌, ◌%◌, ◌^◌, ◌≤◌, ap, ◌∙◌, pow-suc, add-one, arith}
 use native.Mathlib.Nat.{mod-mod}
 use Rattle.polynomials.proofs.Modular.{same_times}
 use Rattle.coins.specs.declared.share_coin.ShareCoin.{ShareCoin}
