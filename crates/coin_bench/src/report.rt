@@ -2,12 +2,11 @@
 ghost use Rattle.std.specs.Prelude.{◌≡◌, ◌/◌, ◌≤◌};
 ghost use Rattle.coin_bench.specs.Scenes.{bit_text, tenfold};
 
-use crate::scene::{take_from_to, value_of};
-use crate::timing::{Times, median_times};
+use crate::scene::{Scene, take_from_to};
+use crate::timing::Times;
 use anyhow::anyhow;
 use basis::hall::fault_limit;
 use coins::coin::Coin;
-use coins::share_coin::{ShareCoin, TOSSES};
 use std::{env, fmt};
 
 // The listed hall sizes.
@@ -15,26 +14,17 @@ const HALLS: [u8; 5] = [4, 7, 10, 13, 16];
 
 // Whether an argument asks for times.
 fn asks_times(rt: &HostRuntime) -> anyhow::Result<bool> {
-    for arg in env::args(rt)? {
-        if arg.as_str() == "time" {
-            return Ok(true);
-        }
-    }
-    Ok(false)
+    Ok(env::args(rt)?.any(|arg| arg.as_str() == "time"))
 }
 
-// The coin of the highest replica, with its right share in every toss.
-fn new_coin(n: u8) -> anyhow::Result<ShareCoin>
+// The scene of a hall of n.
+fn new_scene(n: u8) -> anyhow::Result<Scene>
     requires { (2 ≤ n) × (n ≤ 16) }
 {
-    let own = n - 1;
-    match ShareCoin::new(n, own, &[value_of(n, own); TOSSES]) {
-        Ok(coin) => Ok(coin),
-        Err(_) => Err(anyhow!("the coin was refused")),
-    }
+    Scene::new(n).map_err(|_| anyhow!("the coin was refused"))
 }
 
-// What is shown, in words.
+// What is shown, in words; no Display, whose fmt promises nothing of the text.
 fn bit_word(shown: Option<bool>) -> &'static str
     ensures { result.now ≡ bit_text shown }
 {
@@ -45,14 +35,12 @@ fn bit_word(shown: Option<bool>) -> &'static str
     }
 }
 
-// Says what is shown in a hall of n.
-fn say_shown(rt: &HostRuntime, n: u8) -> anyhow::Result<()>
-    requires { (2 ≤ n) × (n ≤ 16) }
-{
-    let mut coin = new_coin(n)?;
-    take_from_to(&mut coin, n, 0, n - 1, 0, 1);
+// Says what is shown in a hall.
+fn say_shown(rt: &HostRuntime, mut scene: Scene) -> anyhow::Result<()> {
+    let n = scene.n;
+    take_from_to(&mut scene.coin, n, 0, n - 1, 0, 1);
     let f = fault_limit(n);
-    let word = bit_word(coin.bit(0, 1));
+    let word = bit_word(scene.coin.bit(0, 1));
     println!(rt; "{n} replicas, {f} wrong: shows {word}")?;
     Ok(())
 }
@@ -86,12 +74,9 @@ fn times_over(value: u32, other: u32) -> Tenths
     Tenths(u64::from(value) * 10 / u64::from(other))
 }
 
-// Says how long a toss takes in a hall of n, and how many times that of the hall before.
-fn say_times(rt: &HostRuntime, n: u8, before: Times) -> anyhow::Result<Times>
-    requires { (2 ≤ n) × (n ≤ 16) }
-{
-    let mut coin = new_coin(n)?;
-    let times = median_times(rt, &mut coin, n)?;
+// Says how long a toss takes in a hall, and how many times that of the hall before.
+fn say_times(rt: &HostRuntime, mut scene: Scene, before: Times) -> anyhow::Result<Times> {
+    let times = scene.median_times(rt)?;
     let toss = micros(times.toss);
     let search = micros(times.search);
     let growth = times_over(times.search, before.search);
@@ -101,11 +86,11 @@ fn say_times(rt: &HostRuntime, n: u8, before: Times) -> anyhow::Result<Times>
 
 pub fn run(rt: &HostRuntime) -> anyhow::Result<()> {
     let times = asks_times(rt)?;
-    let mut before = Times { toss: 0, search: 0 };
+    let mut before = Times::default();
     for n in HALLS {
-        say_shown(rt, n)?;
+        say_shown(rt, new_scene(n)?)?;
         if times {
-            before = say_times(rt, n, before)?;
+            before = say_times(rt, new_scene(n)?, before)?;
         }
     }
     Ok(())

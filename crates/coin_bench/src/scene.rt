@@ -1,12 +1,33 @@
 // A toss with f wrong shares in the worst place: at the lowest replicas, so that the right choice is the last one.
-ghost use Rattle.std.specs.Prelude.{◌≡◌, ◌<◌, ◌≤◌};
+ghost use Rattle.std.specs.Prelude.{◌≡◌, ◌<◌, ◌≤◌, IfOk};
 ghost use Rattle.coins.specs.Coins.{Tossed};
 ghost use Rattle.coin_bench.specs.Scenes.{right_value, error_of, dealt_value, taken_between};
 
 use basis::hall::fault_limit;
+use basis::refusal::Refusal;
 use coins::coin::Coin;
 use coins::share::Share;
-use coins::share_coin::ShareCoin;
+use coins::share_coin::{ShareCoin, TOSSES};
+
+// A hall of n, and the coin of its highest replica.
+#[derive(Drop)]
+pub struct Scene {
+    pub n: u8,
+    pub coin: ShareCoin,
+    ghost sized: { (2 ≤ n) × (n ≤ 16) },
+}
+
+impl Scene {
+    // The coin has its right share in every toss.
+    pub fn new(n: u8) -> Result<Scene, Refusal>
+        requires { (2 ≤ n) × (n ≤ 16) }
+        ensures { IfOk result (λ s. s.n ≡ n) }
+    {
+        let own = n - 1;
+        let coin = ShareCoin::new(n, own, &[value_of(n, own); TOSSES])?;
+        Ok(Scene { n, coin })
+    }
+}
 
 // The value at z of the polynomial that is dealt, (z + 7) to the f.
 fn right_value_at(f: u8, z: u8) -> u8
@@ -14,7 +35,7 @@ fn right_value_at(f: u8, z: u8) -> u8
     ensures { result ≡ right_value f z }
 {
     let mut v: u32 = 1;
-    for _k in 0..f {
+    for _ in 0..f {
         v = v * (u32::from(z) + 7) % 251;
     }
     v as u8

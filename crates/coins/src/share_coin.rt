@@ -1,9 +1,7 @@
 // The share coin: it shows the low bit of the value at 0 of a polynomial that enough held shares lie on.
-ghost use Rattle.std.specs.Prelude.{◌≡◌, ℕ, ◌<◌, length, IfOk, slice_index_or};
+ghost use Rattle.std.specs.Prelude.{◌≡◌, ◌<◌, IfOk};
 ghost use Rattle.basis.specs.Members.{member_made};
-ghost use Rattle.polynomials.specs.Polynomials.{at};
 ghost use Rattle.coins.specs.Coins.{Tossed};
-ghost use Rattle.coins.specs.Tosses.{blank, toss_new};
 ghost use Rattle.coins.specs.Shared.{place, toss_at, share_acts, Sound, ShowsExactly, coin_told, MadeOf};
 ghost use Rattle.coins.specs.Keeping.{shared_keeps};
 
@@ -33,18 +31,6 @@ fn toss_place(ballot: u8, round: u8) -> usize
     usize::from(ballot) * 15 + (usize::from(round) - 1)
 }
 
-// Tosses of which nothing is taken, with these own shares.
-fn new_tosses(shares: &[u8; TOSSES]) -> [Toss; TOSSES]
-    ensures all { length result ≡ 240 }
-    ensures each { (i : ℕ) → i < 240 → slice_index_or result i blank ≡ toss_new (at shares.now i) }
-{
-    let mut tosses = [Toss::new(0); TOSSES];
-    for i in 0..TOSSES {
-        tosses[i] = Toss::new(shares[i]);
-    }
-    tosses
-}
-
 impl ShareCoin {
     // The coin of a replica in a hall of n, with its own shares ballot by ballot and round by round from 1 on. Refused
     // where n is not listed or the own number not below it.
@@ -53,7 +39,7 @@ impl ShareCoin {
         ensures coin { IfOk result (λ c. MadeOf shares.now c) }
     {
         let member = Member::new(n, own)?;
-        let tosses = new_tosses(shares);
+        let tosses = shares.map(Toss::new);
         Ok(ShareCoin { member, tosses })
     }
 

@@ -1,5 +1,5 @@
 // One toss of the share coin: the shares of one ballot and round, and the bit that they show.
-ghost use Rattle.std.specs.Prelude.{◌≡◌, ◌%◌, ◌^◌, ◌<◌, slice_set};
+ghost use Rattle.std.specs.Prelude.{◌≡◌, ◌^◌, ◌<◌, slice_set};
 ghost use Rattle.std.specs.Int.Bits.{bit_or};
 ghost use Rattle.basis.specs.Refusals.{numbered};
 ghost use Rattle.coins.specs.Coins.{answer_by, left_by, Sender};
@@ -11,7 +11,8 @@ use basis::refusal::Reason;
 use basis::replicas::{ReplicaSet, contains, with};
 use polynomials::search::shown_bit;
 
-// The senders whose shares are taken, these shares, the own share, and the bit that is shown.
+// The senders whose shares are taken, these shares, the own share, and the bit that is shown. The senders are a mask, as
+// all sets of replicas are: the search counts its ones, and reads the shares beside it.
 #[derive(Clone, Copy)]
 pub struct Toss {
     pub taken: ReplicaSet,
@@ -20,22 +21,15 @@ pub struct Toss {
     pub shown: Option<bool>,
 }
 
-// A share from 0 to 250.
-fn reduced(share: u8) -> u8
-    ensures { result ≡ share % 251 }
-{
-    share % 251
-}
-
 impl Toss {
-    // A toss of which nothing is taken.
+    // A toss of which nothing is taken, with its own share modulo 251.
     pub fn new(share: u8) -> Toss
         ensures { result ≡ toss_new share }
     {
         Toss {
             taken: 0,
             shares: [0; 16],
-            own: reduced(share),
+            own: share % 251,
             shown: None,
         }
     }
@@ -45,11 +39,7 @@ impl Toss {
         requires { Sender sender }
         ensures { result ≡ taken_from self.now sender }
     {
-        if contains(self.taken, sender) {
-            Some(self.shares[usize::from(sender)])
-        } else {
-            None
-        }
+        contains(self.taken, sender).then_some(self.shares[usize::from(sender)])
     }
 
     // The replicas whose shares are held.
@@ -94,9 +84,7 @@ impl Toss {
     fn look(&mut self, member: Member)
         ensures { self.new ≡ looked member.n member.own self.old }
     {
-        if self.shown.is_none() {
-            self.shown = self.search(member);
-        }
+        self.shown = self.shown.or_else(|| self.search(member));
     }
 
     // Takes a share: new, known, or refused where another share of the sender is taken.
@@ -111,13 +99,8 @@ impl Toss {
                 self.look(member);
                 Ok(Heard::New)
             }
-            Some(known) => {
-                if known == value {
-                    Ok(Heard::Known)
-                } else {
-                    Err(Reason::Contradiction)
-                }
-            }
+            Some(known) if known == value => Ok(Heard::Known),
+            Some(_) => Err(Reason::Contradiction),
         }
     }
 }

@@ -1,7 +1,8 @@
 -- Turns of the loops. Assumes nothing.
-use Rattle.std.proofs.Common.{◌≡◌, ℕ, suc, ◌+◌, ◌-◌, ◌*◌, ◌%◌, ◌<◌, ◌≤◌, Bool, true, false, sym, refl, ap, ◌∙◌, add-mul, add-one, arith}
+use Rattle.std.proofs.Common.{◌≡◌, ℕ, suc, ◌+◌, ◌-◌, ◌*◌, ◌%◌, ◌<◌, ◌≤◌, Bool, List, length, take, subst, true, false, sym, refl, ap, ◌∙◌, add-mul, add-one, arith}
+use Rattle.std.proofs.lemmas.List.{length-take-le, get_or-take}
 use native.Mathlib.Nat.{mod-mod}
-use Rattle.polynomials.specs.Polynomials.{ev, Same, slope, through, nval}
+use Rattle.polynomials.specs.Polynomials.{ev, Same, slope, at, through, nval, Newtons}
 use Rattle.polynomials.proofs.Modular.{same_plus, same_times}
 use Rattle.polynomials.proofs.Roots.{at_most_one}
 use Rattle.polynomials.proofs.Interpolation.{interpolates, ev_newton}
@@ -22,6 +23,11 @@ through_cong n s y y' b e =
     let q = interpolates n s y' b in
     at_most_one n (count n s) (through n s y) (through n s y') s b (omega (arith, p.short)) (omega (arith, q.short)) (omega arith)
     (λ j l t. p.meets_each j l t ∙ e j l ∙ sym (q.meets_each j l t))
+
+-- Newton's numbers for the first w values of a table, where k stands for w
+pub newtons_front : (w k : ℕ) (xs : List ℕ) (s : ℕ → Bool) (d : ℕ → ℕ) → k ≡ w → w ≤ 251 → w ≤ length xs → Newtons (length (take w xs)) s (at (take w xs)) d → Newtons k s (at xs) d
+newtons_front w k xs s d e b l h z =
+    rw e (subst (λ (x : ℕ). Newtons x s (at (take w xs)) d) (length-take-le w xs l) h z ∙ through_cong w s (at (take w xs)) (at xs) b (λ j t. ap (λ (x : ℕ). x % 251) (get_or-take w xs j 0 t)) z)
 
 pub turn_in : (i : ℕ) (s : ℕ → Bool) (y y' d : ℕ → ℕ) (z : ℕ) → i < 251 → s i ≡ true → ((j : ℕ) → j < i → y' j ≡ slope y i j % 251) → d i ≡ y i
     → Same (nval i s d z) (ev (through i s y') z) → Same (nval (suc i) s d z) (ev (through (suc i) s y) z)

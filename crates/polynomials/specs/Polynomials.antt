@@ -42,6 +42,10 @@ unfoldable pub newton : ℕ → ℕ → List ℕ → List ℕ
 unfolding plus times
 newton y r p = plus (y ∷ p) (times r p)
 
+-- the slope from a low value to a high one, d points above it
+abbrev pub slope_to : ℕ → ℕ → ℕ → ℕ
+slope_to high low d = (high + (251 - low % 251)) * inv d
+
 -- the slope from j to n
 unfoldable pub slope : (ℕ → ℕ) → ℕ → ℕ → ℕ
 slope y n j = (y n + (251 - y j % 251)) * inv (n - j)

@@ -1,7 +1,7 @@
 // The polynomial through chosen shares modulo 251, by Newton's numbers: one for each chosen share.
 ghost use Rattle.std.specs.Prelude.{◌≡◌, ℕ, ◌+◌, ◌-◌, ◌*◌, ◌%◌, ◌<◌, ◌≤◌, length};
 ghost use Rattle.basis.specs.Counts.{has};
-ghost use Rattle.polynomials.specs.Polynomials.{at, inv, slope, nval, Newtons, Cancels, Interpolates, AtMostOne};
+ghost use Rattle.polynomials.specs.Polynomials.{at, inv, slope_to, nval, Newtons, Cancels, Interpolates, AtMostOne};
 
 use basis::replicas::{ReplicaSet, contains};
 
@@ -20,47 +20,58 @@ pub fn inverse(d: usize) -> u8
 }
 
 // The slope from a low point to a high one, given the inverse of their distance.
-fn slope_to(high: u8, low: u8, by: u8) -> u8
+fn slope_by(high: u8, low: u8, by: u8) -> u8
     ensures { result ≡ (high + (251 - low % 251)) * by % 251 }
 {
     ((u32::from(high) + (251 - u32::from(low) % 251)) * u32::from(by) % 251) as u8
 }
 
-// The slopes from each value below i to the value at i, in place of them.
-fn slopes(i: usize, ys: &mut [u8])
-    requires { (i < length ys.old) × (i < 16) }
-    ensures lower { (j : ℕ) → j < i → at ys.new j ≡ slope (at ys.old) i j % 251 }
-    ensures upper { (j : ℕ) → i ≤ j → at ys.new j ≡ at ys.old j }
+// The slopes from each of some low values to a high one, which stands right above them, in place of them.
+fn slopes(lower: &mut [u8], high: u8)
+    requires { length lower.old < 16 }
+    ensures { (j : ℕ) → j < length lower.old → at lower.new j ≡ slope_to high (at lower.old j) (length lower.old - j) % 251 }
 {
-    for j in 0..i {
-        ys[j] = slope_to(ys[i], ys[j], inverse(i - j));
+    let i = lower.len();
+    for (j, y) in lower.iter_mut().enumerate() {
+        *y = slope_by(high, *y, inverse(i - j));
     }
 }
 
-// Newton's numbers for the chosen ones of the first values, in place of the values.
-pub fn interpolate(choice: ReplicaSet, width: usize, ys: &mut [u8])
-    requires { (width ≤ length ys.old) × (width ≤ 16) }
-    ensures value { Newtons width (has choice) (at ys.old) (at ys.new) }
+// Newton's numbers for the chosen ones of some values, in place of the values.
+pub fn interpolate(choice: ReplicaSet, ys: &mut [u8])
+    requires { length ys.old ≤ 16 }
+    ensures value { Newtons (length ys.old) (has choice) (at ys.old) (at ys.new) }
     ensures interpolates { Interpolates }
     ensures one { AtMostOne }
 {
-    for i in (0..width).rev() {
+    // By number: over split_last_mut the proof did not close, as no loop knows at its end what it split off.
+    for i in (0..ys.len()).rev() {
         if contains(choice, i as u8) {
-            slopes(i, ys);
+            let high = ys[i];
+            slopes(&mut ys[..i], high);
         }
     }
 }
 
-// The value at z by Newton's numbers.
-pub fn value(choice: ReplicaSet, width: usize, numbers: &[u8], z: u8) -> u8
-    requires { (width ≤ length numbers.now) × (width ≤ 16) }
-    ensures { result ≡ nval width (has choice) (at numbers.now) z % 251 }
-{
-    let mut v: u32 = 0;
-    for i in 0..width {
-        if contains(choice, i as u8) {
-            v = (u32::from(numbers[i]) + (u32::from(z) + (250 - i as u32)) * v) % 251;
+// The polynomial of a choice and Newton's numbers, of which those of the choice count.
+#[derive(Clone, Copy)]
+pub struct Interpolant<'a> {
+    pub choice: ReplicaSet,
+    pub numbers: &'a [u8],
+    pub ghost small: { length numbers.now ≤ 16 },
+}
+
+impl Interpolant<'_> {
+    // The value at z.
+    pub fn value(&self, z: u8) -> u8
+        ensures { result ≡ nval (length self.now.numbers.now) (has self.now.choice) (at self.now.numbers.now) z % 251 }
+    {
+        let mut v: u32 = 0;
+        for (i, number) in self.numbers.iter().enumerate() {
+            if contains(self.choice, i as u8) {
+                v = (u32::from(*number) + (u32::from(z) + (250 - i as u32)) * v) % 251;
+            }
         }
+        v as u8
     }
-    v as u8
 }

@@ -5,7 +5,7 @@ ghost use Rattle.basis.specs.Halls.{faults, quorum};
 ghost use Rattle.polynomials.specs.Polynomials.{at, nval};
 ghost use Rattle.polynomials.specs.Shares.{Hall, of_size, is_choice, meets_by, shown_of, Exact, OneValue, OneBit};
 
-use crate::newton::{interpolate, value};
+use crate::newton::{Interpolant, interpolate};
 use basis::hall::{fault_limit, honest_size, quorum_size};
 use basis::replicas::{ReplicaSet, contains, size};
 
@@ -31,34 +31,21 @@ fn is_usable(n: u8, choice: ReplicaSet, held: ReplicaSet) -> bool
     has_size(n, choice) && has_size(n, choice & held)
 }
 
-// Whether replica j holds a share and the polynomial of these numbers meets it.
-fn meets_share(
-    choice: ReplicaSet,
-    width: usize,
-    numbers: &[u8],
-    held: ReplicaSet,
-    share: u8,
-    j: u8,
-) -> bool
-    requires { (width ≤ length numbers.now) × ((width ≤ 16) × (j < 16)) }
-    ensures { result ≡ meets_by width (has choice) (at numbers.now) (has held) share j }
-{
-    contains(held, j) && value(choice, width, numbers, j + 1) == share % 251
-}
+impl Interpolant<'_> {
+    // Whether replica j holds a share and the polynomial meets it.
+    fn meets_share(&self, held: ReplicaSet, share: u8, j: u8) -> bool
+        requires { j < 16 }
+        ensures { result ≡ meets_by (length self.now.numbers.now) (has self.now.choice) (at self.now.numbers.now) (has held) share j }
+    {
+        contains(held, j) && self.value(j + 1) == share % 251
+    }
 
-// The low bit of the value at 0 of the polynomial of these numbers.
-fn bit_at_zero(choice: ReplicaSet, width: usize, numbers: &[u8]) -> bool
-    requires { (width ≤ length numbers.now) × (width ≤ 16) }
-    ensures { result ≡ (nval width (has choice) (at numbers.now) 0 % 251 % 2 == 1) }
-{
-    value(choice, width, numbers, 0) % 2 == 1
-}
-
-// Whether so many shares are met that a bit is shown.
-fn is_enough(n: u8, met: u32) -> bool
-    ensures { result ≡ (met == quorum n) }
-{
-    met == quorum_size(n)
+    // The low bit of the value at 0.
+    fn bit_at_zero(&self) -> bool
+        ensures { result ≡ (nval (length self.now.numbers.now) (has self.now.choice) (at self.now.numbers.now) 0 % 251 % 2 == 1) }
+    {
+        self.value(0) % 2 == 1
+    }
 }
 
 // Whether share j, missed too, is the (f + 1)th that is missed where so many before it are met.
@@ -72,6 +59,8 @@ fn is_hopeless(n: u8, met: u32, j: u8) -> bool
 // The low bit of the value at 0 of a polynomial modulo 251, of degree at most f, that meets 2f + 1 held shares of the
 // replicas below n; none where there is no such polynomial. The search tries every choice of f + 1 held shares of the
 // first 2f + 1 replicas: at most f of those are missed by the polynomial that is looked for.
+// Kept whole: inlined into some callers it is slower by more than a tenth.
+#[inline(never)]
 pub fn shown_bit(n: u8, held: ReplicaSet, shares: &[u8; 16]) -> Option<bool>
     requires { Hall n }
     ensures value { result ≡ shown_of n held (at shares.now) }
@@ -79,23 +68,25 @@ pub fn shown_bit(n: u8, held: ReplicaSet, shares: &[u8; 16]) -> Option<bool>
     ensures one_value { OneValue }
     ensures one_bit { OneBit }
 {
-    let width = quorum_size(n) as usize;
+    let enough = quorum_size(n);
     let mut shown = None;
     'choices: for choice in 0..choices(n) {
         if !is_usable(n, choice, held) {
             continue;
         }
-        let mut numbers = *shares;
-        interpolate(choice, width, &mut numbers);
+        let mut values = *shares;
+        let numbers = &mut values[..enough as usize];
+        interpolate(choice, numbers);
+        let polynomial = Interpolant { choice, numbers };
         let mut met: u32 = 0;
-        for j in 0..n {
-            if meets_share(choice, width, &numbers, held, shares[usize::from(j)], j) {
+        for (j, share) in shares[..usize::from(n)].iter().enumerate() {
+            if polynomial.meets_share(held, *share, j as u8) {
                 met += 1;
-                if is_enough(n, met) {
-                    shown = Some(bit_at_zero(choice, width, &numbers));
+                if met == enough {
+                    shown = Some(polynomial.bit_at_zero());
                     break 'choices;
                 }
-            } else if is_hopeless(n, met, j) {
+            } else if is_hopeless(n, met, j as u8) {
                 continue 'choices;
             }
         }

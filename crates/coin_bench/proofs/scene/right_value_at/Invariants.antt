@@ -2,5 +2,5 @@
 use Rattle.std.proofs.Common.{◌≡◌, ◌+◌, ◌%◌, ◌^◌}
 use Rattle.coin_bench.proofs.scene.right_value_at.Given as goal
 
-abbrev pub invariant-loop-k : goal.invariant-loop-k
-invariant-loop-k l = l.v ≡ (l.z + 7) ^ l._k % 251
+abbrev pub invariant-loop : goal.invariant-loop
+invariant-loop l = l.v ≡ (l.z + 7) ^ l.counter % 251

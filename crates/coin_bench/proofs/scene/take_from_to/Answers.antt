@@ -1,5 +1,5 @@
 -- One share more is taken.
-use Rattle.std.proofs.Common.{◌≡◌, ℕ, ◌-◌, sym, refl, ap, ◌∙◌, arith}
+use Rattle.std.proofs.Common.{◌≡◌, ℕ, ◌-◌, sym, ap, ◌∙◌, arith}
 use Rattle.coins.specs.declared.share_coin.ShareCoin.{ShareCoin}
 use Rattle.coins.specs.Coins.{take_after}
 use Rattle.coins.specs.Shared.{share_acts}

@@ -1,7 +1,8 @@
 -- A new coin has new tosses of the own shares.
 use Rattle.std.proofs.Common.{rules}
+use Rattle.coins.specs.Tosses.{blank}
 use Rattle.coins.specs.Keeping.{made_of}
 use Rattle.coins.proofs.share_coin.ShareCoin.new.Goals as goal
 
 pub returns : goal.returns
-returns c = record { answer = search rules; coin = made_of _ c.args.shares.now c.new_tosses-tosses.ensures.all c.new_tosses-tosses.ensures.each }
+returns c = record { answer = search rules; coin = made_of _ c.args.shares.now c.map-tosses.ensures.items.long (λ i l. let made = c.map-tosses.ensures.items.at i 0 blank l in search rules) }
