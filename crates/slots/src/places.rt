@@ -73,10 +73,8 @@ impl<S: Sheet> SlotSheets<'_, S> {
         requires { sender < self.now.n }
         ensures { result ≡ backed S.Sheet.rows self.now.n self.now.places.now phase self.now.slot least sender }
     {
-        match self.sheet_from(phase, sender) {
-            Some(sheet) => self.count_senders(phase, &sheet) >= least,
-            None => false,
-        }
+        let is_common = |sheet: S| self.count_senders(phase, &sheet) >= least;
+        self.sheet_from(phase, sender).is_some_and(is_common)
     }
 
     // The lowest sender whose sheet so many have.
@@ -104,7 +102,9 @@ pub fn sheet_from<S: Sheet>(
     slot: u8,
     sender: u8,
 ) -> Option<S>
-    requires { (slot < n) × ((sender < n) × (all_places n ≤ length places.now)) }
+    requires low { slot < n }
+    requires below { sender < n }
+    requires enough { all_places n ≤ length places.now }
     ensures { option_map S.Sheet.bytes result ≡ recorded S.Sheet.rows n places.now phase slot sender }
 {
     SlotSheets { n, slot, places }.sheet_from(phase, sender)

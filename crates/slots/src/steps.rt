@@ -3,7 +3,7 @@ ghost use Rattle.std.specs.Prelude.{◌≡◌, ◌<◌, ◌≤◌, length};
 ghost use Rattle.std.specs.Option.{option_map};
 ghost use Rattle.slots.specs.Places.{all_places, recorded, to_ready};
 ghost use Rattle.slots.specs.Steps.{unless, noted, delivery_due, delivered_by, next, settled};
-ghost use Rattle.slots.specs.Taking.{after_step};
+ghost use Rattle.slots.specs.Taking.{tables, after_step};
 
 use crate::places::{SlotSheets, place_of};
 use crate::slot::Slot;
@@ -37,29 +37,26 @@ impl<S: Sheet> SlotSheets<'_, S> {
     fn sheet_to_ready(&self) -> Option<S>
         ensures { option_map S.Sheet.bytes result ≡ to_ready S.Sheet.rows self.now.n self.now.places.now self.now.slot }
     {
-        let echoed = self.leading_sheet(Phase::Echo, quorum_size(self.n));
-        if echoed.is_some() {
-            return echoed;
-        }
-        self.leading_sheet(Phase::Ready, honest_size(self.n))
+        let readied = || self.leading_sheet(Phase::Ready, honest_size(self.n));
+        self.leading_sheet(Phase::Echo, quorum_size(self.n))
+            .or_else(readied)
     }
 }
 
 impl<S: Sheet> SlotTables<'_, '_, S> {
     // Saying the due sheet, if there is one and none of that phase is said.
     fn saying_due(&self, phase: Phase, due: Option<S>) -> Option<Step<S>>
-        ensures { option_map (after_step S.Sheet.rows S.Sheet.bytes self.now.sheets.n self.now.own self.now.sheets.slot (record { records = self.now.records.now; places = self.now.sheets.places.now })) result ≡ option_map (noted S.Sheet.rows self.now.sheets.n self.now.own self.now.sheets.slot phase self.now.own (record { records = self.now.records.now; places = self.now.sheets.places.now })) (unless (recorded S.Sheet.rows self.now.sheets.n self.now.sheets.places.now phase self.now.sheets.slot self.now.own) (option_map S.Sheet.bytes due)) }
+        ensures { let s = self.now.sheets in let t = tables self.now.records.now s.places.now in option_map (after_step S.Sheet.rows S.Sheet.bytes s.n self.now.own s.slot t) result ≡ option_map (noted S.Sheet.rows s.n self.now.own s.slot phase self.now.own t) (unless (recorded S.Sheet.rows s.n s.places.now phase s.slot self.now.own) (option_map S.Sheet.bytes due)) }
     {
         if self.sheets.sheet_from(phase, self.own).is_some() {
             return None;
         }
-        let sheet = due?;
-        Some(Step::Say { phase, sheet })
+        due.map(|sheet| Step::Say { phase, sheet })
     }
 
     // Delivering the sheet that 2f + 1 are ready of, if there is one and the slot is not delivered yet.
     fn delivery_due(&self) -> Option<Step<S>>
-        ensures { option_map (after_step S.Sheet.rows S.Sheet.bytes self.now.sheets.n self.now.own self.now.sheets.slot (record { records = self.now.records.now; places = self.now.sheets.places.now })) result ≡ option_map (delivered_by S.Sheet.rows self.now.sheets.n self.now.own self.now.sheets.slot (record { records = self.now.records.now; places = self.now.sheets.places.now })) (delivery_due S.Sheet.rows self.now.sheets.n self.now.own self.now.sheets.slot (record { records = self.now.records.now; places = self.now.sheets.places.now })) }
+        ensures { let s = self.now.sheets in let t = tables self.now.records.now s.places.now in option_map (after_step S.Sheet.rows S.Sheet.bytes s.n self.now.own s.slot t) result ≡ option_map (delivered_by S.Sheet.rows s.n self.now.own s.slot t) (delivery_due S.Sheet.rows s.n self.now.own s.slot t) }
     {
         if self.records[usize::from(self.sheets.slot)]
             .delivered
@@ -67,31 +64,29 @@ impl<S: Sheet> SlotTables<'_, '_, S> {
         {
             return None;
         }
-        let sender = self
-            .sheets
-            .leading_sender(Phase::Ready, quorum_size(self.sheets.n))?;
-        Some(Step::Deliver { sender })
+        self.sheets
+            .leading_sender(Phase::Ready, quorum_size(self.sheets.n))
+            .map(|sender| Step::Deliver { sender })
     }
 
     // The first listed step that applies, if one does.
     fn next_step(&self) -> Option<Step<S>>
-        ensures { option_map (after_step S.Sheet.rows S.Sheet.bytes self.now.sheets.n self.now.own self.now.sheets.slot (record { records = self.now.records.now; places = self.now.sheets.places.now })) result ≡ next S.Sheet.rows self.now.sheets.n self.now.own self.now.sheets.slot (record { records = self.now.records.now; places = self.now.sheets.places.now }) }
+        ensures { let s = self.now.sheets in let t = tables self.now.records.now s.places.now in option_map (after_step S.Sheet.rows S.Sheet.bytes s.n self.now.own s.slot t) result ≡ next S.Sheet.rows s.n self.now.own s.slot t }
     {
-        let echo = self.saying_due(Phase::Echo, self.sheets.sheet_from(Phase::Send, self.own));
-        if echo.is_some() {
-            return echo;
-        }
-        let ready = self.saying_due(Phase::Ready, self.sheets.sheet_to_ready());
-        if ready.is_some() {
-            return ready;
-        }
-        self.delivery_due()
+        let ready = || self.saying_due(Phase::Ready, self.sheets.sheet_to_ready());
+        let deliver = || self.delivery_due();
+        self.saying_due(Phase::Echo, self.sheets.sheet_from(Phase::Send, self.own))
+            .or_else(ready)
+            .or_else(deliver)
     }
 }
 
 // Takes the steps of a slot while one applies.
 pub fn settle<S: Sheet>(records: &mut [Slot], places: &mut [S::Row], n: u8, own: u8, slot: u8)
-    requires { (slot < n) × ((own < n) × ((n ≤ length records.old) × (all_places n ≤ length places.old))) }
+    requires low { slot < n }
+    requires below { own < n }
+    requires each { n ≤ length records.old }
+    requires enough { all_places n ≤ length places.old }
     ensures { record { records = records.exit.now; places = places.new } ≡ settled S.Sheet.rows n own slot 3 (record { records = records.entry.now; places = places.old }) }
 {
     for turn in 0..STEPS {
