@@ -8,6 +8,7 @@ use messages::message::Phase;
 use sheets::sheet::Sheet;
 
 // The place of a sender's message of a phase in a slot.
+#[tactic(auto, using(crate::proofs::Positions::place_within))]
 pub fn place_of(n: u8, phase: Phase, slot: u8, sender: u8) -> usize
     ensures value { result ≡ place n phase slot sender }
     ensures within { slot < n → sender < n → result < all_places n }
@@ -55,6 +56,7 @@ impl<S: Sheet> SlotSheets<'_, S> {
     }
 
     // How many senders have the sheet recorded.
+    #[tactic(auto, using(basis::proofs::Counts::count_yes, basis::proofs::Counts::count_no), unfolding(basis::specs::Counts::count))]
     pub fn count_senders(&self, phase: Phase, sheet: &S) -> u32
         ensures { result ≡ tally S.Sheet.rows self.now.n self.now.places.now phase self.now.slot (S.Sheet.bytes sheet.now) }
     {

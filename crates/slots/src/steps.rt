@@ -82,6 +82,7 @@ impl<S: Sheet> SlotTables<'_, '_, S> {
 }
 
 // Takes the steps of a slot while one applies.
+#[tactic(auto, using(crate::proofs::Stepping::still, crate::proofs::Stepping::taken, crate::proofs::Stepping::ended))]
 pub fn settle<S: Sheet>(records: &mut [Slot], places: &mut [S::Row], n: u8, own: u8, slot: u8)
     requires low { slot < n }
     requires below { own < n }
@@ -89,7 +90,7 @@ pub fn settle<S: Sheet>(records: &mut [Slot], places: &mut [S::Row], n: u8, own:
     requires enough { all_places n ≤ length places.old }
     ensures { record { records = records.exit.now; places = places.new } ≡ settled S.Sheet.rows n own slot 3 (record { records = records.entry.now; places = places.old }) }
 {
-    for turn in 0..STEPS {
+    for _ in 0..STEPS {
         let sheets = SlotSheets::<S> {
             n,
             slot,
