@@ -1,3 +1,4 @@
 -- The definitions that the contracts of slots cite.
 pub mod Places
 pub mod Steps
+pub mod Taking

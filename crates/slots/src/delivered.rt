@@ -19,15 +19,9 @@ pub fn delivered_sheet<S: Sheet>(
 ) -> Option<S>
     ensures { option_map S.Sheet.bytes result ≡ delivered_sheet_lem S.Sheet.rows n own slot (record { records = records.entry.now; places = places.now }) }
 {
-    if usize::from(slot) >= records.len() {
-        return None;
-    }
-    let sender = records[usize::from(slot)].delivered?;
-    let place = place_of(n, Phase::Ready, slot, sender);
-    if place >= places.len() {
-        return None;
-    }
-    S::from_row(places[place])
+    let sender = records.get(usize::from(slot))?.delivered?;
+    let row = places.get(place_of(n, Phase::Ready, slot, sender))?;
+    S::from_row(*row)
 }
 
 // Whether a slot is delivered.
@@ -39,15 +33,12 @@ pub fn is_delivered(records: &[Slot], slot: u8) -> bool
 }
 
 // How many of the n slots are delivered.
-pub fn count_deliveries(records: &[Slot], n: u8) -> u32
+pub fn count_deliveries(records: &[Slot], n: u8) -> usize
     requires { n ≤ length records.now }
     ensures { result ≡ count n (λ k. is_some (slice_index_or records.now k cleared).delivered) }
 {
-    let mut many = 0u32;
-    for slot in 0..n {
-        if is_delivered(records, slot) {
-            many += 1;
-        }
-    }
-    many
+    records[..usize::from(n)]
+        .iter()
+        .filter(|record| record.delivered.is_some())
+        .count()
 }

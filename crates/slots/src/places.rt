@@ -1,14 +1,14 @@
 // Where the sheets of a slot stand, and looking through them.
 ghost use Rattle.std.specs.Prelude.{◌≡◌, ℕ, ◌+◌, ◌*◌, ◌<◌, ◌≤◌, true, length, IfSome};
 ghost use Rattle.std.specs.Option.{option_map};
-ghost use Rattle.basis.specs.Counts.{count};
 ghost use Rattle.sheets.specs.Holds.{holds};
-ghost use Rattle.slots.specs.Places.{place, all_places, recorded, tally, backed, leader};
+ghost use Rattle.slots.specs.Places.{place, all_places, recorded, tally, reaches, backed, leader, sheet_of};
 
 use messages::message::Phase;
 use sheets::sheet::Sheet;
 
 // The place of a sender's message of a phase in a slot.
+#[tactic(auto, using(crate::proofs::Positions::place_within))]
 pub fn place_of(n: u8, phase: Phase, slot: u8, sender: u8) -> usize
     ensures value { result ≡ place n phase slot sender }
     ensures within { slot < n → sender < n → result < all_places n }
@@ -28,7 +28,75 @@ pub fn places_in(n: u8) -> usize
     usize::from(n) * (2 * usize::from(n) + 1)
 }
 
-// The sheet recorded of a sender, if any.
+// The sheets of a slot, in the table of a hall of n.
+#[derive(Drop)]
+pub struct SlotSheets<'a, S: Sheet> {
+    pub n: u8,
+    pub slot: u8,
+    pub places: &'a [S::Row],
+    ghost low: { slot < n },
+    ghost enough: { all_places n ≤ length places.now },
+}
+
+impl<S: Sheet> SlotSheets<'_, S> {
+    // The sheet recorded of a sender, if any.
+    pub fn sheet_from(&self, phase: Phase, sender: u8) -> Option<S>
+        requires { sender < self.now.n }
+        ensures { option_map S.Sheet.bytes result ≡ recorded S.Sheet.rows self.now.n self.now.places.now phase self.now.slot sender }
+    {
+        S::from_row(self.places[place_of(self.n, phase, self.slot, sender)])
+    }
+
+    // Whether a sender has the sheet recorded.
+    fn has_sheet(&self, phase: Phase, sender: u8, sheet: &S) -> bool
+        requires { sender < self.now.n }
+        ensures { result ≡ holds (S.Sheet.bytes sheet.now) (recorded S.Sheet.rows self.now.n self.now.places.now phase self.now.slot sender) }
+    {
+        sheet.is_in(&self.places[place_of(self.n, phase, self.slot, sender)])
+    }
+
+    // How many senders have the sheet recorded.
+    #[tactic(auto, using(basis::proofs::Counts::count_yes, basis::proofs::Counts::count_no), unfolding(basis::specs::Counts::count))]
+    pub fn count_senders(&self, phase: Phase, sheet: &S) -> u32
+        ensures { result ≡ tally S.Sheet.rows self.now.n self.now.places.now phase self.now.slot (S.Sheet.bytes sheet.now) }
+    {
+        // a loop over the slot's sheets with their sender, which counts those that are the same
+        let mut many = 0u32;
+        for sender in 0..self.n {
+            if self.has_sheet(phase, sender, sheet) {
+                many += 1;
+            }
+        }
+        many
+    }
+
+    // Whether so many senders have the sheet of this one.
+    fn is_backed(&self, phase: Phase, least: u32, sender: u8) -> bool
+        requires { sender < self.now.n }
+        ensures { result ≡ backed S.Sheet.rows self.now.n self.now.places.now phase self.now.slot least sender }
+    {
+        let is_common = |sheet: S| self.count_senders(phase, &sheet) >= least;
+        self.sheet_from(phase, sender).is_some_and(is_common)
+    }
+
+    // The lowest sender whose sheet so many have.
+    pub fn leading_sender(&self, phase: Phase, least: u32) -> Option<u8>
+        ensures value { result ≡ leader S.Sheet.rows self.now.n self.now.places.now phase self.now.slot least self.now.n }
+        ensures within { IfSome result (λ j. (j < self.now.n) × (backed S.Sheet.rows self.now.n self.now.places.now phase self.now.slot least j ≡ true)) }
+    {
+        (0..self.n).find(|sender| self.is_backed(phase, least, *sender))
+    }
+
+    // That sender's sheet.
+    pub fn leading_sheet(&self, phase: Phase, least: u32) -> Option<S>
+        ensures { option_map S.Sheet.bytes result ≡ sheet_of S.Sheet.rows self.now.n self.now.places.now phase self.now.slot (leader S.Sheet.rows self.now.n self.now.places.now phase self.now.slot least self.now.n) }
+    {
+        let sender = self.leading_sender(phase, least)?;
+        self.sheet_from(phase, sender)
+    }
+}
+
+// The sheet recorded of a sender in a slot, if any.
 pub fn sheet_from<S: Sheet>(
     places: &[S::Row],
     n: u8,
@@ -36,75 +104,10 @@ pub fn sheet_from<S: Sheet>(
     slot: u8,
     sender: u8,
 ) -> Option<S>
-    requires { (slot < n) × ((sender < n) × (all_places n ≤ length places.now)) }
+    requires low { slot < n }
+    requires below { sender < n }
+    requires enough { all_places n ≤ length places.now }
     ensures { option_map S.Sheet.bytes result ≡ recorded S.Sheet.rows n places.now phase slot sender }
 {
-    S::from_row(places[place_of(n, phase, slot, sender)])
-}
-
-// Whether a sender has the sheet recorded in a slot.
-fn has_sheet<S: Sheet>(
-    places: &[S::Row],
-    n: u8,
-    phase: Phase,
-    slot: u8,
-    sender: u8,
-    sheet: &S,
-) -> bool
-    requires { (slot < n) × ((sender < n) × (all_places n ≤ length places.now)) }
-    ensures { result ≡ holds (S.Sheet.bytes sheet.now) (recorded S.Sheet.rows n places.now phase slot sender) }
-{
-    sheet.is_in(&places[place_of(n, phase, slot, sender)])
-}
-
-// How many senders have the sheet recorded in a slot.
-pub fn count_senders<S: Sheet>(places: &[S::Row], n: u8, phase: Phase, slot: u8, sheet: &S) -> u32
-    requires { (slot < n) × (all_places n ≤ length places.now) }
-    ensures { result ≡ tally S.Sheet.rows n places.now phase slot (S.Sheet.bytes sheet.now) }
-{
-    let mut many = 0u32;
-    for sender in 0..n {
-        if has_sheet(places, n, phase, slot, sender, sheet) {
-            many += 1;
-        }
-    }
-    many
-}
-
-// Whether so many senders have the sheet of this one.
-fn is_backed<S: Sheet>(
-    places: &[S::Row],
-    n: u8,
-    phase: Phase,
-    slot: u8,
-    least: u32,
-    sender: u8,
-) -> bool
-    requires { (slot < n) × ((sender < n) × (all_places n ≤ length places.now)) }
-    ensures { result ≡ backed S.Sheet.rows n places.now phase slot least sender }
-{
-    match sheet_from::<S>(places, n, phase, slot, sender) {
-        None => false,
-        Some(sheet) => count_senders(places, n, phase, slot, &sheet) >= least,
-    }
-}
-
-// The lowest sender whose sheet so many have.
-pub fn leading_sender<S: Sheet>(
-    places: &[S::Row],
-    n: u8,
-    phase: Phase,
-    slot: u8,
-    least: u32,
-) -> Option<u8>
-    requires { (slot < n) × (all_places n ≤ length places.now) }
-    ensures value { result ≡ leader S.Sheet.rows n places.now phase slot least n }
-    ensures within { IfSome result (λ j. (j < n) × (backed S.Sheet.rows n places.now phase slot least j ≡ true)) }
-{
-    for sender in 0..n {
-        if is_backed::<S>(places, n, phase, slot, least, sender) {
-            return Some(sender);
-        }
-    }
-    None
+    SlotSheets { n, slot, places }.sheet_from(phase, sender)
 }
