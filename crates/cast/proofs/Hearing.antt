@@ -11,7 +11,8 @@ use Rattle.broadcast.specs.Calls as calls
 use Rattle.basis.specs.declared.heard.Heard.{Heard}
 use Rattle.slots.specs.declared.slot.Slot.{Slot}
 use Rattle.broadcast.specs.declared.states.Running.{Running}
-use Rattle.cast.specs.States.{takings_rows, as_problem, heard_of}
+use Rattle.cast.specs.States.{as_problem, heard_of}
+use Rattle.sheets.specs.OfTakings.{takings_rows}
 use Rattle.cast.specs.declared.till.State.{State}
 use Rattle.cast.specs.declared.till.State.TheVariants as state
 

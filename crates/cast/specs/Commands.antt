@@ -26,11 +26,6 @@ abbrev pub amount_of_lem : List ℕ → List ℕ → Option Amount
 amount_of_lem c r = amount_from (signed_of c) (decimal_of r)
 
 -- the words of the phases
-abbrev pub phase_word_lem : Phase → List ℕ
-phase_word_lem Send = codes "send"
-phase_word_lem Echo = codes "echo"
-phase_word_lem Ready = codes "ready"
-
 abbrev pub phase_of_lem : List ℕ → Option Phase
 phase_of_lem w =
     cond (bytes_eq w (codes "send")) (Some Send)

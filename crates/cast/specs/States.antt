@@ -5,7 +5,6 @@ use Rattle.messages.specs.Reading.{syntax}
 use Rattle.messages.specs.Tags.{basic_tags}
 use Rattle.sheets.specs.OfTakings.{takings_lawful, takings_rows}
 use Rattle.sheets.specs.declared.kinds.TakingsRow.{TakingsRow}
-use Rattle.sheets.specs.Holds.{Rows}
 use Rattle.slots.specs.Steps.{Slots, delivered_sheet_lem}
 use Rattle.broadcast.specs.Calls.{of_hall, offer_after, hear_answer}
 use Rattle.broadcast.specs.Saying.{say_answer, say_output}

@@ -1,30 +1,15 @@
 // What the program says of each line, and at the end.
 use crate::play::{Hall, Rested};
-use crate::script::{Command, Forgery, Offer, parse, phase_word};
+use crate::script::{Command, Forgery, Offer, parse};
 use crate::till::{Fault, Till};
 use anyhow::anyhow;
 use basis::heard::Heard;
-use basis::refusal::Refusal;
 use sheets::kinds::Takings;
 use std::alloc::Global;
-use std::fmt;
 use std::fmt::Write;
 use std::io::Read;
 use std::ops::ControlFlow;
 use text::words::Lines;
-
-// A refusal in words: its number, its place and what it means.
-#[derive(Clone, Copy)]
-struct InWords(Refusal);
-
-impl fmt::Display for InWords {
-    fn fmt<W: fmt::Write>(&self, f: &mut fmt::Formatter<W>) -> fmt::Result {
-        let number = self.0.reason.number();
-        let place = self.0.place;
-        let meaning = self.0.reason.meaning();
-        write!(f, "{number} at {place}: {meaning}")
-    }
-}
 
 fn say_not_understood(rt: &HostRuntime, line: u64) -> anyhow::Result<()> {
     println!(rt; "line {line} not understood")?;
@@ -38,8 +23,7 @@ fn open_hall(rt: &HostRuntime, hall: &mut Option<Hall>, n: u8) -> anyhow::Result
             Ok(ControlFlow::Continue(()))
         }
         Err(Fault::Refused(refusal)) => {
-            let words = InWords(refusal);
-            println!(rt; "hall refused {words}")?;
+            println!(rt; "hall refused {refusal}")?;
             Ok(ControlFlow::Break(()))
         }
         Err(_) => Err(anyhow!("out of memory")),
@@ -52,8 +36,7 @@ fn play_offer(rt: &HostRuntime, hall: &mut Hall, line: u64, offer: Offer) -> any
     match hall.offer(offer) {
         Ok(()) => println!(rt; "till {till} offers {amount}")?,
         Err(Fault::Refused(refusal)) => {
-            let words = InWords(refusal);
-            println!(rt; "till {till} refused {words}")?;
+            println!(rt; "till {till} refused {refusal}")?;
         }
         Err(Fault::Misplaced) => say_not_understood(rt, line)?,
         Err(Fault::Memory) => return Err(anyhow!("out of memory")),
@@ -69,13 +52,12 @@ fn say_heard(
     heard: Result<Heard, Fault>,
 ) -> anyhow::Result<()> {
     let Forgery { from, to, slot, .. } = forgery;
-    let phase = phase_word(forgery.phase);
+    let phase = forgery.phase;
     match heard {
         Ok(Heard::New) => println!(rt; "till {to} hears {phase} {slot} from till {from}: new")?,
         Ok(Heard::Known) => println!(rt; "till {to} hears {phase} {slot} from till {from}: known")?,
         Err(Fault::Refused(refusal)) => {
-            let words = InWords(refusal);
-            println!(rt; "till {to} refuses till {from}: {words}")?;
+            println!(rt; "till {to} refuses till {from}: {refusal}")?;
         }
         Err(_) => say_not_understood(rt, line)?,
     }
@@ -96,8 +78,7 @@ fn play_forgery(
         Ok(sheet) => say_heard(rt, line, forgery, hall.forge(forgery, sheet)),
         Err(refusal) => {
             let from = forgery.from;
-            let words = InWords(refusal);
-            println!(rt; "till {from} refused {words}")?;
+            println!(rt; "till {from} refused {refusal}")?;
             Ok(())
         }
     }

@@ -1,6 +1,6 @@
 // The lines of a script: what each of them asks for.
 ghost use Rattle.std.specs.Prelude.{◌≡◌};
-ghost use Rattle.cast.specs.Commands.{small_of, amount_of_lem, phase_of_lem, phase_word_lem, offer_of, forgery_of, bare_command, full_command, command_of};
+ghost use Rattle.cast.specs.Commands.{small_of, amount_of_lem, phase_of_lem, offer_of, forgery_of, bare_command, full_command, command_of};
 
 use basis::refusal::Refusal;
 use messages::message::Phase;
@@ -82,16 +82,6 @@ fn phase_of(word: &[u8]) -> Option<Phase>
         b"echo" => Some(Phase::Echo),
         b"ready" => Some(Phase::Ready),
         _ => None,
-    }
-}
-
-pub fn phase_word(phase: Phase) -> &'static str
-    ensures { result.now ≡ phase_word_lem phase }
-{
-    match phase {
-        Phase::Send => "send",
-        Phase::Echo => "echo",
-        Phase::Ready => "ready",
     }
 }
 

@@ -18,7 +18,8 @@ impl PhasedRound {
         ensures { result ≡ (join member.n member.own (bit_set bit)).applies (meaning_of self.now) }
     {
         let cast = self.first.cast_for(BitSet::from(bit));
-        self.is_entered() & (has_honest(size_in(cast, member.n), member.n) & !contains(cast, member.own))
+        self.is_entered()
+            & (has_honest(size_in(cast, member.n), member.n) & !contains(cast, member.own))
     }
 
     // Says the first vote that f + 1 replicas have cast.

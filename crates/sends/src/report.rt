@@ -1,7 +1,6 @@
 // What the program says of each line, and at the end.
 use crate::entry::{Entry, parse};
 use crate::trip::{HALL, SEND_LEN, round_trip};
-use basis::refusal::Refusal;
 use std::io::Read;
 use text::hex::push_hex;
 use text::words::Lines;
@@ -41,14 +40,6 @@ fn say_sent(rt: &HostRuntime, entry: Entry, packet: &[u8]) -> anyhow::Result<()>
     Ok(())
 }
 
-fn say_refused(rt: &HostRuntime, refusal: Refusal) -> anyhow::Result<()> {
-    let number = refusal.reason.number();
-    let place = refusal.place;
-    let meaning = refusal.reason.meaning();
-    println!(rt; "  refused {number} at {place}: {meaning}")?;
-    Ok(())
-}
-
 fn say_line(rt: &HostRuntime, line: &[u8]) -> anyhow::Result<Outcome> {
     let Some(entry) = parse(line) else {
         println!(rt;
@@ -67,7 +58,7 @@ fn say_line(rt: &HostRuntime, line: &[u8]) -> anyhow::Result<Outcome> {
             Ok(Outcome::Unread)
         }
         Err(refusal) => {
-            say_refused(rt, refusal)?;
+            println!(rt; "  refused {refusal}")?;
             Ok(Outcome::Refused)
         }
     }
