@@ -14,6 +14,7 @@ use sheets::rows::put_sheet;
 use sheets::sheet::Sheet;
 
 // Says the due sheet, if there is one and none of that phase is said.
+// The table and its numbers are parameters: a struct that lends it has to say in each clause that it keeps them.
 fn say_due<S: Sheet>(places: &mut [S::Row], n: u8, own: u8, phase: Phase, slot: u8, due: Option<S>)
     requires low { slot < n }
     requires below { own < n }
