@@ -1,4 +1,3 @@
 -- The definitions that the contracts of slots cite.
 pub mod Places
 pub mod Steps
-pub mod Taking

@@ -2,9 +2,10 @@
 ghost use Rattle.std.specs.Prelude.{◌≡◌, ℕ, ◌+◌, ◌*◌, ◌<◌, ◌≤◌, true, length, IfSome};
 ghost use Rattle.std.specs.Option.{option_map};
 ghost use Rattle.sheets.specs.Holds.{holds};
-ghost use Rattle.slots.specs.Places.{place, all_places, recorded, tally, reaches, backed, leader, sheet_of};
+ghost use Rattle.slots.specs.Places.{place, all_places, recorded, tally, backed, leader, sheet_of};
 
 use messages::message::Phase;
+use sheets::rows::sheet_at;
 use sheets::sheet::Sheet;
 
 // The place of a sender's message of a phase in a slot.
@@ -44,7 +45,7 @@ impl<S: Sheet> SlotSheets<'_, S> {
         requires { sender < self.now.n }
         ensures { option_map S.Sheet.bytes result ≡ recorded S.Sheet.rows self.now.n self.now.places.now phase self.now.slot sender }
     {
-        S::from_row(self.places[place_of(self.n, phase, self.slot, sender)])
+        sheet_at(self.places, place_of(self.n, phase, self.slot, sender))
     }
 
     // Whether a sender has the sheet recorded.
@@ -60,7 +61,7 @@ impl<S: Sheet> SlotSheets<'_, S> {
     pub fn count_senders(&self, phase: Phase, sheet: &S) -> u32
         ensures { result ≡ tally S.Sheet.rows self.now.n self.now.places.now phase self.now.slot (S.Sheet.bytes sheet.now) }
     {
-        // a loop over the slot's sheets with their sender, which counts those that are the same
+        // a rule of the project: same sheets are counted by a loop over the slot's sheets with their sender
         let mut many = 0u32;
         for sender in 0..self.n {
             if self.has_sheet(phase, sender, sheet) {
@@ -88,7 +89,7 @@ impl<S: Sheet> SlotSheets<'_, S> {
     }
 
     // That sender's sheet.
-    pub fn leading_sheet(&self, phase: Phase, least: u32) -> Option<S>
+    pub(crate) fn leading_sheet(&self, phase: Phase, least: u32) -> Option<S>
         ensures { option_map S.Sheet.bytes result ≡ sheet_of S.Sheet.rows self.now.n self.now.places.now phase self.now.slot (leader S.Sheet.rows self.now.n self.now.places.now phase self.now.slot least self.now.n) }
     {
         let sender = self.leading_sender(phase, least)?;
