@@ -1,5 +1,5 @@
 -- A later round by its three steps, and the rounds one after another. Assumes nothing.
-use Rattle.std.proofs.Common.{◌≡◌, ℕ, zero, suc, ◌+◌, ◌-◌, ◌<◌, List, get_or, sym, refl, ap, ◌∙◌, ap₂, add-one, arith}
+use Rattle.std.proofs.Common.{◌≡◌, ℕ, suc, ◌+◌, ◌-◌, ◌<◌, List, get_or, sym, ap, ◌∙◌, ap₂, add-one, arith}
 use Rattle.rules.specs.Rounds.{Round, cleared, bit_if_any}
 use Rattle.rules.specs.Laws.{Acts}
 use Rattle.coins.specs.Coins.{Acts as Coin-acts}

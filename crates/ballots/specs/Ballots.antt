@@ -1,11 +1,10 @@
 -- The steps of a ballot: its opening round, the rule's steps in every entered round, shares, and going on. Assumes nothing.
-use Rattle.std.specs.Prelude.{ℕ, zero, suc, Bool, cond, ◌&&◌, List, set, Some, None, Option, ◌==◌, nat_le, nat_lt, slice_index_or, slice_set}
+use Rattle.std.specs.Prelude.{ℕ, zero, suc, Bool, cond, ◌&&◌, List, Some, None, Option, ◌==◌, nat_le, nat_lt, slice_index_or, slice_set}
 use Rattle.messages.specs.Tags.{bits_number}
 use Rattle.rules.specs.Rounds.{Round, cleared, bit_set, bit_if_any}
 use Rattle.rules.specs.Laws.{Acts}
 use Rattle.openings.specs.Openings.{proposed, opening_settled}
 use Rattle.coins.specs.Coins.{Acts as Coin-acts}
-use Rattle.coins.specs.declared.share.Share.{Share}
 use Rattle.ballots.specs.declared.ballot.Event.{Event}
 use Rattle.ballots.specs.declared.ballot.Event.TheVariants.{Proposal, Vote, Verdict}
 use Rattle.ballots.specs.States.{Opened, BallotState, place, round_at}

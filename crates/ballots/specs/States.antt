@@ -1,5 +1,5 @@
 -- What the record of a ballot means. Assumes nothing.
-use Rattle.std.specs.Prelude.{ℕ, zero, suc, ◌+◌, ◌*◌, List, set, slice_index_or}
+use Rattle.std.specs.Prelude.{ℕ, zero, suc, ◌+◌, ◌*◌, List, slice_index_or}
 use Rattle.rules.specs.Rounds.{Round, cleared, bit_if_any}
 use Rattle.phases.specs.Records.{meaning_of}
 use Rattle.ballots.specs.declared.ballot.Ballot.{Ballot}

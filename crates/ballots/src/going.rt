@@ -5,7 +5,8 @@ ghost use Rattle.ballots.specs.States.{place, ballot_meaning};
 ghost use Rattle.ballots.specs.Ballots.{gone_ballot, gone_rounds, opened_ballot, opened_rounds, round_settled, ballot_settled};
 
 use crate::ballot::{Ballot, Event};
-use crate::rounds::{LATER, enter_later, later_verdict, take_rule_steps};
+use crate::later_round::LaterRound;
+use crate::rounds::{LATER, row_of, take_rule_steps};
 use crate::shares::say_share;
 use basis::member::Member;
 use coins::coin::Coin;
@@ -31,7 +32,7 @@ pub fn go_on<R: Rule>(
     }
     if let (Some(bits), Some(coin)) = (verdict, shown) {
         if let Some(bit) = ballot.react(member, Event::Verdict(bits, coin)) {
-            enter_later::<R>(rounds, member, slot, round, bit);
+            R::enter(&mut rounds[row_of(slot, round)], member, bit);
         }
     }
 }
@@ -42,17 +43,17 @@ pub fn settle_round<R: Rule, C: Coin>(
     rounds: &mut [R::Record],
     coin: &mut C,
     member: Member,
-    slot: u8,
-    later: u8,
+    at: LaterRound,
 )
-    requires { (slot < 16) × ((later < 15) × (15 * slot + 15 ≤ length rounds.old)) }
-    ensures { record { ballot = ballot_meaning ballot.exit.now; rounds = map R.Rule.meaning rounds.new; coin = coin.new } ≡ round_settled R.Rule.acts C.Coin.acts member.n member.own slot later (record { ballot = ballot_meaning ballot.entry.now; rounds = map R.Rule.meaning rounds.old; coin = coin.old }) }
+    requires { 15 * at.slot + 15 ≤ length rounds.old }
+    ensures { record { ballot = ballot_meaning ballot.exit.now; rounds = map R.Rule.meaning rounds.new; coin = coin.new } ≡ round_settled R.Rule.acts C.Coin.acts member.n member.own at.slot at.later (record { ballot = ballot_meaning ballot.entry.now; rounds = map R.Rule.meaning rounds.old; coin = coin.old }) }
 {
-    take_rule_steps::<R>(ballot.stage, rounds, member, slot, later);
-    let verdict = later_verdict::<R>(rounds, slot, later);
-    say_share(coin, ballot.stage, verdict, member, slot, later);
-    let shown = coin.bit(slot, later + 1);
-    go_on::<R>(ballot, rounds, member, slot, later + 1, verdict, shown);
+    let row = &mut rounds[row_of(at.slot, at.later)];
+    take_rule_steps::<R>(row, ballot.stage, member, at.later);
+    let verdict = R::verdict(row);
+    say_share(coin, ballot.stage, verdict, member, at);
+    let shown = coin.bit(at.slot, at.round());
+    go_on::<R>(ballot, rounds, member, at.slot, at.round(), verdict, shown);
 }
 
 // The opening round takes its steps and is gone on from, as if a coin showed 1.
@@ -84,6 +85,6 @@ pub fn settle_ballot<R: Rule, C: Coin>(
 {
     settle_opening::<R>(ballot, rounds, member, slot);
     for later in 0..LATER {
-        settle_round::<R, C>(ballot, rounds, coin, member, slot, later);
+        settle_round::<R, C>(ballot, rounds, coin, member, LaterRound { slot, later });
     }
 }

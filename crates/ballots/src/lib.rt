@@ -3,6 +3,8 @@
 
 pub mod ballot;
 pub mod going;
+pub mod later_round;
 pub mod reacting;
 pub mod rounds;
 pub mod shares;
+pub mod stage;

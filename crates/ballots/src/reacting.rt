@@ -27,32 +27,21 @@ pub fn bit_to_enter(verdict: BitSet, coin: bool) -> bool
 pub fn decide(decided: Option<bool>, verdict: BitSet, coin: bool) -> Option<bool>
     ensures { bit_if_any result ≡ decision (bit_if_any decided) (bits_number verdict) (bit_set coin) }
 {
-    match (decided, verdict, coin) {
-        (None, BitSet::Zero, false) => Some(false),
-        (None, BitSet::One, true) => Some(true),
-        _ => decided,
-    }
-}
-
-impl Stage {
-    // Whether a ballot is in this round.
-    pub fn is_round(self, round: u8) -> bool
-        ensures { result ≡ (stage_of self == round) }
-    {
-        match self {
-            Stage::InRound(r) => r == round,
-            Stage::Finished => round == 16,
-        }
+    if verdict == BitSet::from(coin) {
+        decided.or(Some(coin))
+    } else {
+        decided
     }
 }
 
 impl Ballot {
     // A ballot that nobody proposed in.
+    #[tactic(auto, using(phases::proofs::Masks::default_cleared))]
     pub fn unopened() -> Ballot
         ensures { ballot_meaning result ≡ unopened }
     {
         Ballot {
-            opening: PhasedRound::empty(),
+            opening: PhasedRound::default(),
             stage: Stage::InRound(0),
             decided: None,
         }

@@ -5,6 +5,7 @@ ghost use Rattle.ballots.specs.States.{stage_of};
 ghost use Rattle.ballots.specs.Ballots.{due_by, share_due, said_share, next_coin};
 
 use crate::ballot::Stage;
+use crate::later_round::LaterRound;
 use basis::member::Member;
 use coins::coin::Coin;
 use coins::share::Share;
@@ -21,16 +22,15 @@ fn due_share(taken: Option<u8>, own: Option<u8>) -> Option<u8>
 }
 
 // The own share that is still to be said in a later round.
-pub fn share_to_say<C: Coin>(coin: &C, member: Member, slot: u8, later: u8) -> Option<u8>
-    requires { (slot < 16) × (later < 15) }
-    ensures { result ≡ share_due C.acts member.own slot later coin.now }
+pub fn share_to_say<C: Coin>(coin: &C, member: Member, at: LaterRound) -> Option<u8>
+    ensures { result ≡ share_due C.acts member.own at.slot at.later coin.now }
 {
     if !C::uses_shares() {
         return None;
     }
     due_share(
-        coin.share_of(slot, later + 1, member.own),
-        coin.own_share(slot, later + 1),
+        coin.share_of(at.slot, at.round(), member.own),
+        coin.own_share(at.slot, at.round()),
     )
 }
 
@@ -40,22 +40,20 @@ pub fn say_share<C: Coin>(
     stage: Stage,
     verdict: Option<BitSet>,
     member: Member,
-    slot: u8,
-    later: u8,
+    at: LaterRound,
 )
-    requires { (slot < 16) × (later < 15) }
-    ensures { coin.new ≡ next_coin C.acts member.own slot later (stage_of stage) (set_if_any verdict) coin.old }
+    ensures { coin.new ≡ next_coin C.acts member.own at.slot at.later (stage_of stage) (set_if_any verdict) coin.old }
 {
-    if !stage.has_entered(later) {
+    if !stage.has_entered(at.later) {
         return;
     }
     if verdict.is_none() {
         return;
     }
-    if let Some(value) = share_to_say(coin, member, slot, later) {
+    if let Some(value) = share_to_say(coin, member, at) {
         let _ = coin.take(Share {
-            ballot: slot,
-            round: later + 1,
+            ballot: at.slot,
+            round: at.round(),
             sender: member.own,
             value,
         });

@@ -1,14 +1,14 @@
 -- No step of the opening round lets an earlier one apply again, so one pass takes all. Assumes nothing.
-use Rattle.std.proofs.Common.{◌≡◌, ℕ, zero, suc, ◌<◌, ◌≤◌, Bool, true, false, cond, not, ◌&&◌, ◌||◌, eqb, leb, List, [], ◌∷◌, sym, refl, ap, ◌∙◌, ap₂, arith}
-use Rattle.std.proofs.lemmas.Bool.{eq-eqb, ne_eqb, and_parts, or_left, or_right, cond_both}
+use Rattle.std.proofs.Common.{◌≡◌, ℕ, ◌<◌, Bool, true, false, not, ◌&&◌, ◌||◌, eqb, leb, refl, ap, ◌∙◌, ap₂, arith}
+use Rattle.std.proofs.lemmas.Bool.{ne_eqb, or_left, cond_both}
 use Rattle.basis.specs.Counts.{count}
 use Rattle.basis.specs.Halls.{quorum, beyond_faults}
-use Rattle.basis.specs.Steps.{Step, settled, Idle}
+use Rattle.basis.specs.Steps.{Step, Idle}
 use Rattle.basis.proofs.Stepping.{Once, passed, settled_passed, passed_idle}
 use Rattle.rules.specs.Rounds.{Round, voted}
-use Rattle.phases.specs.Steps.{says, ends, is_entered_lem, many}
+use Rattle.phases.specs.Steps.{says, is_entered_lem}
 use Rattle.phases.specs.Turns.{says_has, other_tag, other_set, voted_by, and_off}
-use Rattle.openings.specs.Openings.{once_second, admits, supports, ready_to_leave, tally, join_zero, join_one, admit, leave, opening_steps, opening_settled}
+use Rattle.openings.specs.Openings.{supports, tally, join_zero, join_one, admit, leave, opening_steps, opening_settled}
 
 module _ (n own : ℕ) where
   kept : (s t : Step Round) → ((m : Round) → s.applies (t.leaves m) ≡ s.applies m) → (m : Round) → t.applies m ≡ true → s.applies m ≡ false → s.applies (t.leaves m) ≡ false

@@ -2,7 +2,7 @@
 use Rattle.std.specs.Prelude.{ℕ, Bool, cond, not, ◌&&◌, ◌||◌, List, [], ◌∷◌, ◌==◌, nat_le}
 use Rattle.basis.specs.Counts.{count}
 use Rattle.basis.specs.Halls.{quorum, beyond_faults}
-use Rattle.basis.specs.Steps.{Step, taking, settled}
+use Rattle.basis.specs.Steps.{Step, settled}
 use Rattle.rules.specs.Rounds.{Round, voted}
 use Rattle.phases.specs.Steps.{says, begun, ends, is_entered_lem, many}
 

@@ -15,21 +15,11 @@ use phases::round::PhasedRound;
 pub fn has_proposed_one(round: &PhasedRound) -> bool
     ensures { result ≡ ((meaning_of round.now).entered == 2) }
 {
-    match round.entered {
-        Some(true) => true,
-        Some(false) => false,
-        None => false,
-    }
+    round.entered == Some(true)
 }
 
-// Whether 0 is admitted.
-pub fn admits_zero(round: &PhasedRound, n: u8) -> bool
-    ensures { result ≡ admits n (meaning_of round.now) 1 }
-{
-    is_quorum_in(round.first.zero, n)
-}
-
-// Whether 1 is admitted.
+// Whether 1 is admitted. Not by 2f + 1 first votes, as 0 and both bits of a later round: the proposal or f + 1 suffice.
+#[tactic(auto, unfolding(crate::specs::Openings::admits))]
 pub fn admits_one(round: &PhasedRound, n: u8) -> bool
     ensures { result ≡ admits n (meaning_of round.now) 2 }
 {
@@ -37,17 +27,19 @@ pub fn admits_one(round: &PhasedRound, n: u8) -> bool
 }
 
 // The second votes for admitted bits.
+#[tactic(auto, using(phases::proofs::Masks::where_has), unfolding(crate::specs::Openings::admits, phases::specs::Steps::admitted))]
 pub fn supporters(round: &PhasedRound, n: u8) -> Counted
     ensures zero { (j : ℕ) → has result.zero j ≡ supports n (meaning_of round.now) 1 j }
     ensures one { (j : ℕ) → has result.one j ≡ supports n (meaning_of round.now) 2 j }
 {
     Counted {
-        zero: where_set(admits_zero(round, n), round.second.zero),
+        zero: where_set(round.admits(n, false), round.second.zero),
         one: where_set(admits_one(round, n), round.second.one),
     }
 }
 
 // Whether 2f + 1 senders have one.
+#[tactic(auto, using(basis::proofs::Counts::count_cong), unfolding(crate::specs::Openings::ready_to_leave))]
 pub fn may_leave_by(round: &PhasedRound, n: u8) -> bool
     ensures { result ≡ ready_to_leave n (meaning_of round.now) }
 {
@@ -55,6 +47,7 @@ pub fn may_leave_by(round: &PhasedRound, n: u8) -> bool
 }
 
 // The bit that 2f + 1 support, or both.
+#[tactic(auto, using(basis::proofs::Counts::count_cong), unfolding(crate::specs::Openings::tally))]
 pub fn tally_of(round: &PhasedRound, n: u8) -> BitSet
     ensures { bits_number result ≡ tally n (meaning_of round.now) }
 {

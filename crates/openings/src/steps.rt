@@ -3,32 +3,15 @@ ghost use Rattle.std.specs.Prelude.{◌≡◌, ℕ};
 ghost use Rattle.basis.specs.Steps.{taking, Idle};
 ghost use Rattle.rules.specs.Rounds.{bit_set};
 ghost use Rattle.phases.specs.Records.{meaning_of};
-ghost use Rattle.openings.specs.Openings.{join_zero, join_one, admit, leave, opening_steps, opening_settled};
+ghost use Rattle.openings.specs.Openings.{join_one, admit, leave, opening_steps, opening_settled};
 
 use crate::admitting::{may_leave_by, tally_of};
 use crate::proposing::vote_for_one;
 use basis::member::Member;
-use basis::replicas::{contains, has_honest_in, is_quorum_in};
+use basis::replicas::{contains, has_honest_in};
 use messages::message::BitSet;
-use phases::recording::only;
 use phases::round::PhasedRound;
-
-// Whether f + 1 first votes for 0 are recorded, and the own one is not.
-pub fn may_join_zero(round: &PhasedRound, member: Member) -> bool
-    ensures { result ≡ (join_zero member.n member.own).applies (meaning_of round.now) }
-{
-    round.is_entered()
-        & (has_honest_in(round.first.zero, member.n) & !contains(round.first.zero, member.own))
-}
-
-// Says the first vote 0 that f + 1 have cast.
-pub fn join_for_zero(round: &mut PhasedRound, member: Member)
-    ensures { meaning_of round.new ≡ taking (join_zero member.n member.own) (meaning_of round.old) }
-{
-    if may_join_zero(round, member) {
-        round.record_vote(0x20, BitSet::Zero, member.own);
-    }
-}
+use phases::vote_phase::VotePhase;
 
 // Whether f + 1 first votes for 1 are recorded, and the own one or a second vote is not.
 pub fn may_join_one(round: &PhasedRound, member: Member) -> bool
@@ -36,26 +19,27 @@ pub fn may_join_one(round: &PhasedRound, member: Member) -> bool
 {
     round.is_entered()
         & (has_honest_in(round.first.one, member.n)
-            & (!contains(round.first.one, member.own) | !round.has_voted(0x21, member.own)))
+            & (!contains(round.first.one, member.own)
+                | !round.has_voted(VotePhase::Second, member.own)))
 }
 
-// Says the first vote 1 that f + 1 have cast, and the second vote 1, unless one is said.
+// Says the first vote 1 that f + 1 have cast, and, other than in later rounds, the second vote 1, unless one is said.
 pub fn join_for_one(round: &mut PhasedRound, member: Member)
     ensures { meaning_of round.new ≡ taking (join_one member.n member.own) (meaning_of round.old) }
 {
     if may_join_one(round, member) {
-        round.record_vote(0x20, BitSet::One, member.own);
+        round.record_vote(VotePhase::First, BitSet::One, member.own);
         vote_for_one(round, member);
     }
 }
 
 // Whether 2f + 1 first votes for a bit are recorded, and no second vote is said.
+#[tactic(auto, unfolding(phases::specs::Steps::admitted))]
 pub fn may_admit(round: &PhasedRound, member: Member, bit: bool) -> bool
     ensures { result ≡ (admit member.n member.own (bit_set bit)).applies (meaning_of round.now) }
 {
     round.is_entered()
-        & (is_quorum_in(round.first.cast_for(only(bit)), member.n)
-            & !round.has_voted(0x21, member.own))
+        & (round.admits(member.n, bit) & !round.has_voted(VotePhase::Second, member.own))
 }
 
 // Says the second vote for a bit that is admitted by 2f + 1.
@@ -63,7 +47,7 @@ pub fn admit_bit(round: &mut PhasedRound, member: Member, bit: bool)
     ensures { meaning_of round.new ≡ taking (admit member.n member.own (bit_set bit)) (meaning_of round.old) }
 {
     if may_admit(round, member, bit) {
-        round.record_vote(0x21, only(bit), member.own);
+        round.record_vote(VotePhase::Second, BitSet::from(bit), member.own);
     }
 }
 
@@ -88,7 +72,7 @@ pub fn take_opening_steps(round: &mut PhasedRound, member: Member)
     ensures left { meaning_of round.new ≡ opening_settled member.n member.own (meaning_of round.old) }
     ensures none { Idle (opening_steps member.n member.own) (meaning_of round.new) }
 {
-    join_for_zero(round, member);
+    round.join_first(member, false);
     join_for_one(round, member);
     admit_bit(round, member, false);
     admit_bit(round, member, true);

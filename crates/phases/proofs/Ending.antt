@@ -1,17 +1,17 @@
 -- At rest a round that all honest replicas have entered has its verdict at each. Assumes nothing.
-use Rattle.std.proofs.Common.{◌≡◌, ℕ, zero, suc, ◌+◌, ◌*◌, ◌<◌, ◌≤◌, Bool, true, false, cond, not, ◌&&◌, ◌||◌, T, eqb, leb, ◌⊎◌, List, [], ◌∷◌, sym, refl, ap, ◌∙◌, subst, inl, inr, ⊎_elim, arith, lit<}
-use Rattle.std.proofs.lemmas.Bool.{cases_Bool, cases_eq, cases_lt, ne_eqb, eq-eqb, eqb-false, le-leb, leb-true, and_parts, and_from, or_left, or_right, or_cases, not_from_false, both_ways}
+use Rattle.std.proofs.Common.{◌≡◌, ℕ, zero, suc, ◌+◌, ◌*◌, ◌<◌, ◌≤◌, Bool, true, false, not, ◌&&◌, ◌||◌, sym, refl, ◌∙◌, subst, inl, inr, ⊎_elim, arith, lit<}
+use Rattle.std.proofs.lemmas.Bool.{cases_lt, ne_eqb, eqb-false, le-leb, and_parts, and_from, or_left, or_right, or_cases, not_from_false, both_ways}
 use Rattle.basis.specs.Counts.{count}
-use Rattle.basis.specs.Halls.{listed, faults, quorum, beyond_faults}
-use Rattle.basis.specs.Steps.{Step, taking, Idle}
-use Rattle.basis.proofs.Counts.{count_mono, count_both, count_le, count_not}
-use Rattle.basis.proofs.Stepping.{passed, passed_idle}
+use Rattle.basis.specs.Halls.{faults, quorum, beyond_faults}
+use Rattle.basis.specs.Steps.{Idle}
+use Rattle.basis.proofs.Counts.{count_both, count_le, count_not}
+use Rattle.basis.proofs.Stepping.{passed_idle}
 use Rattle.basis.proofs.Totals.{count_below}
 use Rattle.basis.proofs.Thirds.{thirds}
 use Rattle.rules.specs.Rounds.{Round, voted}
-use Rattle.rules.specs.Laws.{Acts, Single, Holds, Reached, AtRest, EndsRounds}
-use Rattle.phases.specs.Steps.{is_entered_lem, many, admitted, counted, enough, union, join, second, third, conclude, two_steps, three_steps, two_phase, three_phase}
-use Rattle.phases.specs.Unions.{Full, Within, by_bit}
+use Rattle.rules.specs.Laws.{Single, Holds, EndsRounds}
+use Rattle.phases.specs.Steps.{is_entered_lem, many, admitted, counted, enough, join, second, conclude, two_steps, three_steps, two_phase, three_phase, phases}
+use Rattle.phases.specs.Unions.{Full, by_bit}
 use Rattle.phases.specs.Turns.{two_once, three_once, two_pass, three_pass}
 use Rattle.phases.specs.Keeping.{Sound, two_sound, three_sound}
 
@@ -134,3 +134,7 @@ three_ends n honest m li few r = verdicts 34 n (lit< tt) (thirds n li) honest fe
   where
     idle : (i : ℕ) → i < n → honest i ≡ true → Idle (three_steps n i) (m i)
     idle i l h = three_idle n i (m i) (r.still i l h)
+
+pub phases_end : (third : Bool) → EndsRounds (phases third)
+phases_end true = three_ends
+phases_end false = two_ends

@@ -1,16 +1,20 @@
 -- A vote recorded in the masks is a vote added to the meaning. Assumes nothing.
-use Rattle.std.proofs.Common.{◌≡◌, ℕ, ◌^◌, Bool, true, false, cond, not, ◌&&◌, ◌||◌, eqb, Option, sym, refl, ap, ◌∙◌, subst, ap₂}
+use Rattle.std.proofs.Common.{◌≡◌, ℕ, ◌^◌, Bool, true, false, cond, ◌&&◌, ◌||◌, eqb, nat_lt, Option, None, Some, Ok, sym, refl, ap, ◌∙◌, ap₂}
 use mathlib.Core.Path.{fun_ext}
 use lib.Bits.{bit_or}
-use Rattle.std.proofs.lemmas.Bool.{eqb-true, eq-eqb, cond-true}
+use Rattle.std.proofs.lemmas.Bool.{eqb-true, cond-false}
+use Rattle.std.proofs.lemmas.Option.{none-some}
+use Rattle.basis.specs.declared.heard.Heard.TheVariants.{New}
 use Rattle.basis.specs.Counts.{has}
 use Rattle.basis.proofs.Counts.{has_or, has_one, has_none}
 use Rattle.messages.specs.declared.message.BitSet.{BitSet}
 use Rattle.messages.specs.declared.message.BitSet.TheVariants.{Zero, One, Both}
 use Rattle.messages.specs.Tags.{bits_number}
-use Rattle.rules.specs.Rounds.{Round, cleared, adding}
+use Rattle.rules.specs.Rounds.{Round, Vote, cleared, adding, voted, recorded, contradicts, hear_answer}
 use Rattle.phases.specs.declared.votes.Votes.{Votes}
 use Rattle.phases.specs.declared.round.PhasedRound.{PhasedRound}
+use Rattle.phases.specs.declared.vote_phase.VotePhase.TheVariants.{First, Second, Third}
+use Rattle.phases.specs.Phases.{phase_at}
 use Rattle.phases.specs.Records.{no_votes, for_set, with_vote, under, meaning_of, empty_round}
 use Rattle.phases.specs.Steps.{says}
 
@@ -94,6 +98,42 @@ none_cast = ap (λ (w : ℕ → ℕ → ℕ → Bool). record { entered = 0; vot
     go t v i false true c = none_in v i
     go t v i false false true = none_in v i
     go t v i false false false = none_in v i
+
+-- a round of defaults is cleared
+abbrev NoVotes : Votes → Type 0
+NoVotes v = (v.zero ≡ 0) × ((v.one ≡ 0) × (v.both ≡ 0))
+
+pub default_cleared : (r : PhasedRound) → (r.entered ≡ None) × (NoVotes r.first × (NoVotes r.second × (NoVotes r.third × (r.verdict ≡ None)))) → meaning_of r ≡ cleared
+default_cleared r h = ap meaning_of empty ∙ none_cast
+  where
+    none : (v : Votes) → NoVotes v → v ≡ no_votes
+    none v k = ap₂ (λ (a b : ℕ). record { zero = a; one = b; both = v.both }) k.0 k.1.0 ∙ ap (λ (d : ℕ). record { zero = 0; one = 0; both = d }) k.1.1
+
+    empty : r ≡ empty_round
+    empty = ap₂ (λ (a : Option Bool) (b : Votes). record { entered = a; first = b; second = r.second; third = r.third; verdict = r.verdict }) h.0 (none r.first h.1.0)
+        ∙ ap₂ (λ (a b : Votes). record { entered = None; first = no_votes; second = a; third = b; verdict = r.verdict }) (none r.second h.1.1.0) (none r.third h.1.1.1.0)
+        ∙ ap (λ (a : Option BitSet). record { entered = None; first = no_votes; second = no_votes; third = no_votes; verdict = a }) h.1.1.1.1
+
+-- a tag of no phase has no votes
+pub no_phase : (r : PhasedRound) (t v j : ℕ) → None ≡ phase_at t → has (for_set (under r t) v) j ≡ false
+no_phase r t v j h = go (eqb t 32) (eqb t 33) (eqb t 34) h
+  where
+    go : (a b c : Bool) → None ≡ cond a (Some First) (cond b (Some Second) (cond c (Some Third) None)) → has (for_set (cond a r.first (cond b r.second (cond c r.third no_votes))) v) j ≡ false
+    go true b c e = absurd (none-some _ e)
+    go false true c e = absurd (none-some _ e)
+    go false false true e = absurd (none-some _ e)
+    go false false false e = none_in v j
+
+-- and a vote under it is new
+pub unheard : (r : PhasedRound) (w : Vote) → None ≡ phase_at w.tag → hear_answer w (meaning_of r) ≡ Ok New
+unheard r w h = cond-false (recorded w (meaning_of r)) _ _ (no_phase r w.tag w.set w.sender h) ∙ cond-false (contradicts w (meaning_of r)) _ _ (off (nat_lt 32 w.tag) _ none)
+  where
+    none : voted w.tag w.sender (meaning_of r) ≡ false
+    none = ap₂ (λ (a b : Bool). a || b) (no_phase r w.tag 1 w.sender h) (ap₂ (λ (a b : Bool). a || b) (no_phase r w.tag 2 w.sender h) (no_phase r w.tag 3 w.sender h))
+
+    off : (a b : Bool) → b ≡ false → (a && b) ≡ false
+    off true b e = e
+    off false b e = refl
 
 -- members of a set where a flag is set, and of two such sets
 pub where_has : (f : Bool) (x j : ℕ) → has (cond f x 0) j ≡ (has x j && f)

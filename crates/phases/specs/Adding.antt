@@ -1,11 +1,9 @@
 -- Votes added one by one: what each such change keeps. Assumes nothing.
-use Rattle.std.specs.Prelude.{◌≡◌, ℕ, zero, suc, ◌+◌, ◌*◌, ◌<◌, ◌≤◌, Bool, true, false, cond, not, ◌&&◌, ◌||◌, ◌⊎◌, ◌==◌, ◌≢◌, refl}
+use Rattle.std.specs.Prelude.{◌≡◌, ℕ, zero, suc, ◌<◌, Bool, true, false, ◌&&◌, ◌||◌, ◌⊎◌, ◌==◌, ◌≢◌, refl}
 use Rattle.std.proofs.Common.{sym, ap, ◌∙◌, inl, inr, ⊎_elim, arith}
-use Rattle.std.proofs.lemmas.Bool.{cases_Bool, eqb-true, eq-eqb, ltb-true, lt-ltb, cond_both, and_parts, and_from, or_cases, or_parts, or_left, or_right, not-true, both_ways, false≢true}
-use Rattle.messages.specs.declared.tags.VoteTags.{VoteTags}
-use Rattle.rules.specs.Rounds.{Round, cleared, Vote, voted, recorded, contradicts, is_new}
-use Rattle.rules.specs.Laws.{Audible}
-use Rattle.phases.specs.Steps.{says, begun, ends, records, hears}
+use Rattle.std.proofs.lemmas.Bool.{eqb-true, lt-ltb, cond_both, and_parts, and_from, or_cases, or_parts, or_left, not-true, both_ways, false≢true}
+use Rattle.rules.specs.Rounds.{Round, cleared, Vote, voted, contradicts, is_new}
+use Rattle.phases.specs.Steps.{says, ends, records, hears}
 
 pub says_only : (t v j : ℕ) (m : Round) (t' v' j' : ℕ) → (says t v j m).votes t' v' j' ≡ true → (m.votes t' v' j' ≡ true) ⊎ ((t' ≡ t) × (v' ≡ v) × (j' ≡ j))
 says_only t v j m t' v' j' h = ⊎_elim inl (λ new.

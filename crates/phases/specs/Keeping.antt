@@ -1,19 +1,18 @@
 -- The two supplied rules keep the laws. Assumes nothing.
-use Rattle.std.specs.Prelude.{◌≡◌, ℕ, zero, suc, ◌+◌, ◌-◌, ◌*◌, ◌/◌, ◌<◌, ◌≤◌, Bool, true, false, cond, not, ◌&&◌, ◌||◌, ◌⊎◌, List, [], ◌∷◌, ◌==◌, ◌≢◌, refl}
+use Rattle.std.specs.Prelude.{◌≡◌, ℕ, ◌<◌, ◌≤◌, Bool, true, false, cond, not, ◌&&◌, ◌||◌, ◌⊎◌, List, ◌==◌, ◌≢◌, refl}
 use Rattle.std.proofs.Common.{sym, ap, ◌∙◌, subst, inl, inr, ⊎_elim, arith, lit<}
-use Rattle.std.proofs.lemmas.Bool.{cases_Bool, eqb-true, eqb-false, eq-eqb, ne_eqb, leb-true, cond_both, cond-true, cond-false, and_parts, and_from, or_left, or_right, or_cases, not-true, not_from_false, both_ways, false≢true}
+use Rattle.std.proofs.lemmas.Bool.{eqb-true, eqb-false, ne_eqb, leb-true, cond_both, cond-true, cond-false, and_parts, and_from, or_left, or_right, or_cases, not-true, not_from_false, both_ways, false≢true}
 use Rattle.basis.specs.Counts.{count}
 use Rattle.basis.specs.Halls.{quorum, beyond_faults}
 use Rattle.basis.specs.Steps.{Step, taking, settled}
 use Rattle.basis.proofs.Counts.{count_mono}
-use Rattle.basis.proofs.Stepping.{passed}
 use Rattle.messages.specs.declared.tags.VoteTags.{VoteTags}
 use Rattle.messages.specs.Tags.{uses, is_set_tag, basic_tags, with_tag}
 use Rattle.messages.proofs.OfTags.{none_named, one_more}
-use Rattle.rules.specs.Rounds.{Round, cleared, Vote, voted, is_new, adding}
-use Rattle.rules.specs.Laws.{Acts, Single, Holds, Audible, Deed, entering, hearing, stepping, act, Lawful, Reached, clear, did, OwnDeed, first_of_others, Laws, Keeps}
-use Rattle.phases.specs.Steps.{says, begun, ends, records, is_entered_lem, many, admitted, lowest_admitted, enough, union, join, second, third, conclude, two_steps, three_steps, enters, hears, phased, two_phase, three_phase}
-use Rattle.phases.specs.Unions.{Full, Within, one_of, by_bit, admitted_full, union_within, union_small, union_some, union_backed}
+use Rattle.rules.specs.Rounds.{Round, Vote, voted, is_new}
+use Rattle.rules.specs.Laws.{Acts, Single, Audible, Deed, entering, hearing, stepping, act, Lawful, Reached, clear, did, OwnDeed, first_of_others, Laws, Keeps}
+use Rattle.phases.specs.Steps.{says, begun, is_entered_lem, many, admitted, enough, union, join, second, third, conclude, two_steps, three_steps, hears, phased, two_phase, three_phase, phases}
+use Rattle.phases.specs.Unions.{Full, Within, admitted_full, union_within, union_small, union_some, union_backed}
 use Rattle.phases.specs.Turns.{says_has, two_pass, three_pass}
 use Rattle.phases.specs.Adding.{says_only, Base, base_cleared, base_says, Own, own_none, own_then, own_says, own_ends, hears_cases}
 
@@ -210,3 +209,7 @@ two_keeps n own li low = laws basic_tags 33 n own (lit< tt) two_steps two_tags (
 
 pub three_keeps : Keeps three_phase
 three_keeps n own li low = laws (with_tag basic_tags 34) 34 n own (lit< tt) three_steps three_tags (three_own n own)
+
+pub phases_keep : (third : Bool) → Keeps (phases third)
+phases_keep true = three_keeps
+phases_keep false = two_keeps

@@ -1,4 +1,5 @@
 -- The definitions of the two supplied rules.
+pub mod Phases
 pub mod Records
 pub mod Steps
 pub mod Keeping

@@ -1,5 +1,5 @@
 -- What a record of the two supplied rules means. Assumes nothing.
-use Rattle.std.specs.Prelude.{ℕ, ◌^◌, Bool, cond, None, ◌==◌, bit_or}
+use Rattle.std.specs.Prelude.{ℕ, ◌^◌, cond, None, ◌==◌, bit_or}
 use Rattle.basis.specs.Counts.{has}
 use Rattle.rules.specs.Rounds.{Round, bit_if_any, set_if_any}
 use Rattle.phases.specs.declared.votes.Votes.{Votes}

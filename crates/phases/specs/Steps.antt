@@ -112,3 +112,10 @@ two_phase = phased basic_tags 33 two_steps
 
 abbrev pub three_phase : Acts
 three_phase = phased (with_tag basic_tags 34) 34 three_steps
+
+-- the rule with third votes or without
+abbrev pub steps_of : Bool → ℕ → ℕ → List (Step Round)
+steps_of third n own = cond third (three_steps n own) (two_steps n own)
+
+abbrev pub phases : Bool → Acts
+phases third = phased (cond third (with_tag basic_tags 34) basic_tags) (cond third 34 33) (steps_of third)

@@ -1,14 +1,14 @@
 -- No step of a round lets an earlier one apply again, so one pass takes all. Assumes nothing.
-use Rattle.std.specs.Prelude.{◌≡◌, ℕ, zero, suc, ◌+◌, ◌<◌, ◌≤◌, Bool, true, false, cond, not, ◌&&◌, ◌||◌, List, [], ◌∷◌, ◌==◌, nat_le}
+use Rattle.std.specs.Prelude.{◌≡◌, ℕ, zero, suc, ◌<◌, Bool, true, false, not, ◌&&◌, ◌||◌, ◌==◌, nat_le}
 use Rattle.std.proofs.Math.Path.{refl, ap₂, fun_ext}
-use Rattle.std.proofs.Common.{sym, ap, ◌∙◌, ⊎_elim, arith}
-use Rattle.std.proofs.lemmas.Bool.{eq-eqb, ne_eqb, and_parts, and_from, or_left, or_right, cases_Bool, cond_both}
+use Rattle.std.proofs.Common.{sym, ap, ◌∙◌, subst, arith}
+use Rattle.std.proofs.lemmas.Bool.{eq-eqb, ne_eqb, and_parts, and_from, or_left, or_right, cond_both}
 use Rattle.basis.specs.Counts.{count}
 use Rattle.basis.specs.Halls.{quorum, beyond_faults}
 use Rattle.basis.specs.Steps.{Step, settled, Idle}
-use Rattle.basis.proofs.Stepping.{Once, KeptOff, passed, settled_passed, passed_idle}
-use Rattle.rules.specs.Rounds.{Round, voted, adding}
-use Rattle.phases.specs.Steps.{says, ends, is_entered_lem, many, admitted, lowest_admitted, counted, enough, union, join, second, third, conclude, two_steps, three_steps}
+use Rattle.basis.proofs.Stepping.{Once, passed, settled_passed, passed_idle}
+use Rattle.rules.specs.Rounds.{Round, voted}
+use Rattle.phases.specs.Steps.{says, ends, is_entered_lem, admitted, lowest_admitted, enough, union, join, second, third, conclude, two_steps, three_steps, steps_of}
 use Rattle.phases.specs.Unions.{union_some, union_small}
 
 or_none : (b : Bool) → (b || false) ≡ b
@@ -133,3 +133,8 @@ module _ (n own : ℕ) where
 
   pub three_pass : (m : Round) → settled (three_steps n own) 5 m ≡ passed (three_steps n own) m
   three_pass m = settled_passed (three_steps n own) 5 m three_once (omega arith)
+
+  -- and none is left
+  pub pass_both : (third : Bool) (m m' : Round) → m' ≡ passed (steps_of third n own) m → (m' ≡ settled (steps_of third n own) 5 m) × Idle (steps_of third n own) m'
+  pass_both true m m' e = (e ∙ sym (three_pass m), subst (Idle (three_steps n own)) (sym e) (passed_idle (three_steps n own) m three_once))
+  pass_both false m m' e = (e ∙ sym (two_pass m), subst (Idle (two_steps n own)) (sym e) (passed_idle (two_steps n own) m two_once))

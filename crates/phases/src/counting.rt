@@ -3,16 +3,17 @@ ghost use Rattle.std.specs.Prelude.{◌≡◌, ℕ, ◌+◌, ◌&&◌, ◌||◌,
 ghost use Rattle.basis.specs.Counts.{has, count};
 ghost use Rattle.basis.specs.Halls.{quorum};
 ghost use Rattle.rules.specs.Rounds.{bit_set, set_if_any};
+ghost use Rattle.phases.specs.Phases.{tag_of};
 ghost use Rattle.phases.specs.Records.{meaning_of};
 ghost use Rattle.phases.specs.Steps.{admitted, counted, enough, union};
 
-use crate::recording::only;
 use crate::round::PhasedRound;
+use crate::vote_phase::VotePhase;
 use basis::replicas::{ReplicaSet, is_quorum_in, size_in};
 use messages::message::BitSet;
 
 // Whose counted votes hold 0, and whose hold 1.
-#[derive(Clone, Copy)]
+#[derive(Clone, Copy, PartialEq, Eq, Debug)]
 pub struct Counted {
     pub zero: ReplicaSet,
     pub one: ReplicaSet,
@@ -27,18 +28,19 @@ pub fn where_set(flag: bool, members: ReplicaSet) -> ReplicaSet
 
 impl PhasedRound {
     // Whether a bit is admitted: 2f + 1 first votes for it are recorded.
+    #[tactic(auto, unfolding(crate::specs::Steps::admitted))]
     pub fn admits(&self, n: u8, bit: bool) -> bool
         ensures { result ≡ admitted n (meaning_of self.now) (bit_set bit) }
     {
-        is_quorum_in(self.first.cast_for(only(bit)), n)
+        is_quorum_in(self.first.cast_for(BitSet::from(bit)), n)
     }
 
-    // The votes under a tag that lie within the set of admitted bits.
-    pub fn count_votes(&self, n: u8, tag: u8) -> Counted
-        ensures zero { (j : ℕ) → has result.zero j ≡ counted n (meaning_of self.now) tag 1 j }
-        ensures one { (j : ℕ) → has result.one j ≡ counted n (meaning_of self.now) tag 2 j }
+    // The votes of a phase that lie within the set of admitted bits.
+    pub fn count_votes(&self, n: u8, phase: VotePhase) -> Counted
+        ensures zero { (j : ℕ) → has result.zero j ≡ counted n (meaning_of self.now) (tag_of phase) 1 j }
+        ensures one { (j : ℕ) → has result.one j ≡ counted n (meaning_of self.now) (tag_of phase) 2 j }
     {
-        let cast = self.votes_under(tag);
+        let cast = self.votes_in(phase);
         let zero = self.admits(n, false);
         let one = self.admits(n, true);
         let both = where_set(zero & one, cast.both);
@@ -51,6 +53,7 @@ impl PhasedRound {
 
 impl Counted {
     // Whether they are 2f + 1.
+    #[tactic(auto, using(basis::proofs::Counts::count_cong, basis::proofs::Counts::has_or))]
     pub fn is_enough(self, n: u8) -> bool
         ensures { result ≡ nat_le (quorum n) (count n (λ j. has self.zero j || has self.one j)) }
     {
@@ -71,29 +74,25 @@ impl Counted {
 }
 
 impl PhasedRound {
-    // Whether 2f + 1 votes under a tag lie within the set of admitted bits.
-    pub fn has_enough(&self, n: u8, tag: u8) -> bool
-        ensures { result ≡ enough n (meaning_of self.now) tag }
+    // Whether 2f + 1 votes of a phase lie within the set of admitted bits.
+    #[tactic(auto, using(basis::proofs::Counts::count_cong), unfolding(crate::specs::Steps::enough))]
+    pub fn has_enough(&self, n: u8, phase: VotePhase) -> bool
+        ensures { result ≡ enough n (meaning_of self.now) (tag_of phase) }
     {
-        self.count_votes(n, tag).is_enough(n)
+        self.count_votes(n, phase).is_enough(n)
     }
 
     // The union of those votes.
-    pub fn union_under(&self, n: u8, tag: u8) -> Option<BitSet>
-        ensures { set_if_any result ≡ union n (meaning_of self.now) tag }
+    pub fn union_in(&self, n: u8, phase: VotePhase) -> Option<BitSet>
+        ensures { set_if_any result ≡ union n (meaning_of self.now) (tag_of phase) }
     {
-        self.count_votes(n, tag).union_of(n)
+        self.count_votes(n, phase).union_of(n)
     }
 
     // Whether there is no verdict.
     pub fn lacks_verdict(&self) -> bool
         ensures { result ≡ ((meaning_of self.now).verdict == 0) }
     {
-        match self.verdict {
-            None => true,
-            Some(BitSet::Zero) => false,
-            Some(BitSet::One) => false,
-            Some(BitSet::Both) => false,
-        }
+        self.verdict.is_none()
     }
 }

@@ -3,9 +3,9 @@
 
 pub mod counting;
 pub mod hearing;
+pub mod phased;
 pub mod recording;
 pub mod round;
 pub mod steps;
-pub mod three_phase;
-pub mod two_phase;
+pub mod vote_phase;
 pub mod votes;

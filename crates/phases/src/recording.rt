@@ -1,81 +1,54 @@
 // Looking votes up and recording them.
 ghost use Rattle.std.specs.Prelude.{◌≡◌, ℕ, ◌<◌};
 ghost use Rattle.messages.specs.Tags.{bits_number};
-ghost use Rattle.rules.specs.Rounds.{bit_set};
-ghost use Rattle.phases.specs.Records.{no_votes, for_set, with_vote, under, meaning_of};
-ghost use Rattle.phases.specs.Steps.{records};
+ghost use Rattle.rules.specs.Rounds.{voted};
+ghost use Rattle.phases.specs.Records.{under, meaning_of};
+ghost use Rattle.phases.specs.Phases.{tag_of};
+ghost use Rattle.phases.specs.Steps.{says};
 
 use crate::round::PhasedRound;
+use crate::vote_phase::VotePhase;
 use crate::votes::Votes;
-use basis::replicas::{ReplicaSet, with};
+use basis::replicas::contains;
 use messages::message::BitSet;
 
-// The set of one bit.
-pub fn only(bit: bool) -> BitSet
-    ensures { bits_number result ≡ bit_set bit }
-{
-    if bit { BitSet::One } else { BitSet::Zero }
-}
-
-impl Votes {
-    // No votes.
-    pub fn none() -> Votes
-        ensures { result ≡ no_votes }
-    {
-        Votes {
-            zero: 0,
-            one: 0,
-            both: 0,
-        }
-    }
-
-    // Who voted for exactly this set.
-    pub fn cast_for(self, bits: BitSet) -> ReplicaSet
-        ensures { result ≡ for_set self (bits_number bits) }
-    {
-        match bits {
-            BitSet::Zero => self.zero,
-            BitSet::One => self.one,
-            BitSet::Both => self.both,
-        }
-    }
-
-    // One vote more.
-    pub fn add(&mut self, bits: BitSet, sender: u8)
-        requires { sender < 16 }
-        ensures { self.new ≡ with_vote self.old (bits_number bits) sender }
-    {
-        match bits {
-            BitSet::Zero => self.zero = with(self.zero, sender),
-            BitSet::One => self.one = with(self.one, sender),
-            BitSet::Both => self.both = with(self.both, sender),
-        }
-    }
-}
-
 impl PhasedRound {
-    // The votes under a tag.
-    pub fn votes_under(&self, tag: u8) -> Votes
-        ensures { result ≡ under self.now tag }
+    // The votes of a phase.
+    pub fn votes_in(&self, phase: VotePhase) -> Votes
+        ensures { result ≡ under self.now (tag_of phase) }
     {
-        match tag {
-            0x20 => self.first,
-            0x21 => self.second,
-            0x22 => self.third,
-            _ => Votes::none(),
+        match phase {
+            VotePhase::First => self.first,
+            VotePhase::Second => self.second,
+            VotePhase::Third => self.third,
         }
     }
 
-    // Records a vote under one of the three tags.
-    pub fn record_vote(&mut self, tag: u8, bits: BitSet, sender: u8)
+    // Records a vote of a phase.
+    #[tactic(auto, using(crate::proofs::Masks::added_first, crate::proofs::Masks::added_second, crate::proofs::Masks::added_third))]
+    pub fn record_vote(&mut self, phase: VotePhase, bits: BitSet, sender: u8)
         requires { sender < 16 }
-        ensures { meaning_of self.new ≡ records tag (bits_number bits) sender (meaning_of self.old) }
+        ensures { meaning_of self.new ≡ says (tag_of phase) (bits_number bits) sender (meaning_of self.old) }
     {
-        match tag {
-            0x20 => self.first.add(bits, sender),
-            0x21 => self.second.add(bits, sender),
-            0x22 => self.third.add(bits, sender),
-            _ => {}
+        match phase {
+            VotePhase::First => self.first.add(bits, sender),
+            VotePhase::Second => self.second.add(bits, sender),
+            VotePhase::Third => self.third.add(bits, sender),
         }
+    }
+
+    // Whether a vote is recorded.
+    pub fn has_vote(&self, phase: VotePhase, bits: BitSet, sender: u8) -> bool
+        ensures { result ≡ (meaning_of self.now).votes (tag_of phase) (bits_number bits) sender }
+    {
+        contains(self.votes_in(phase).cast_for(bits), sender)
+    }
+
+    // Whether some vote of a sender is recorded in a phase.
+    pub fn has_voted(&self, phase: VotePhase, sender: u8) -> bool
+        ensures { result ≡ voted (tag_of phase) sender (meaning_of self.now) }
+    {
+        let cast = self.votes_in(phase);
+        contains(cast.zero, sender) | (contains(cast.one, sender) | contains(cast.both, sender))
     }
 }

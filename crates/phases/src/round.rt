@@ -3,7 +3,7 @@ use crate::votes::Votes;
 use messages::message::BitSet;
 
 // The entered bit, the votes of each phase, the verdict. The two-phase rule has no third votes.
-#[derive(Clone, Copy)]
+#[derive(Clone, Copy, PartialEq, Eq, Default, Debug)]
 pub struct PhasedRound {
     pub entered: Option<bool>,
     pub first: Votes,

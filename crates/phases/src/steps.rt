@@ -2,11 +2,12 @@
 ghost use Rattle.std.specs.Prelude.{◌≡◌, ℕ, not, ◌&&◌, ◌||◌};
 ghost use Rattle.basis.specs.Steps.{taking};
 ghost use Rattle.rules.specs.Rounds.{bit_set, voted};
+ghost use Rattle.phases.specs.Phases.{tag_of};
 ghost use Rattle.phases.specs.Records.{meaning_of};
 ghost use Rattle.phases.specs.Steps.{join, second, third, conclude, is_entered_lem, lowest_admitted, enough};
 
-use crate::recording::only;
 use crate::round::PhasedRound;
+use crate::vote_phase::VotePhase;
 use basis::member::Member;
 use basis::replicas::{contains, has_honest_in};
 use messages::message::BitSet;
@@ -16,7 +17,7 @@ impl PhasedRound {
     pub fn may_join(&self, member: Member, bit: bool) -> bool
         ensures { result ≡ (join member.n member.own (bit_set bit)).applies (meaning_of self.now) }
     {
-        let cast = self.first.cast_for(only(bit));
+        let cast = self.first.cast_for(BitSet::from(bit));
         self.is_entered() & (has_honest_in(cast, member.n) & !contains(cast, member.own))
     }
 
@@ -25,7 +26,7 @@ impl PhasedRound {
         ensures { meaning_of self.new ≡ taking (join member.n member.own (bit_set bit)) (meaning_of self.old) }
     {
         if self.may_join(member, bit) {
-            self.record_vote(0x20, only(bit), member.own);
+            self.record_vote(VotePhase::First, BitSet::from(bit), member.own);
         }
     }
 
@@ -35,7 +36,7 @@ impl PhasedRound {
     {
         self.is_entered()
             & ((self.admits(member.n, false) | self.admits(member.n, true))
-                & !self.has_voted(0x21, member.own))
+                & !self.has_voted(VotePhase::Second, member.own))
     }
 
     // Says the second vote, for the lowest admitted bit.
@@ -44,7 +45,7 @@ impl PhasedRound {
     {
         if self.may_vote_second(member) {
             let bit = !self.admits(member.n, false);
-            self.record_vote(0x21, only(bit), member.own);
+            self.record_vote(VotePhase::Second, BitSet::from(bit), member.own);
         }
     }
 
@@ -52,33 +53,36 @@ impl PhasedRound {
     pub fn may_vote_third(&self, member: Member) -> bool
         ensures { result ≡ (third member.n member.own).applies (meaning_of self.now) }
     {
-        self.is_entered() & (self.has_enough(member.n, 0x21) & !self.has_voted(0x22, member.own))
+        self.is_entered()
+            & (self.has_enough(member.n, VotePhase::Second)
+                & !self.has_voted(VotePhase::Third, member.own))
     }
 
     // Says the third vote, for the set of those bits.
+    #[tactic(auto, using(crate::specs::Unions::union_some))]
     pub fn vote_third(&mut self, member: Member)
         ensures { meaning_of self.new ≡ taking (third member.n member.own) (meaning_of self.old) }
     {
         if self.may_vote_third(member) {
-            if let Some(bits) = self.union_under(member.n, 0x21) {
-                self.record_vote(0x22, bits, member.own);
+            if let Some(bits) = self.union_in(member.n, VotePhase::Second) {
+                self.record_vote(VotePhase::Third, bits, member.own);
             }
         }
     }
 
     // Whether 2f + 1 final votes lie within the set of admitted bits and there is no verdict.
-    pub fn may_conclude(&self, member: Member, tag: u8) -> bool
-        ensures { result ≡ (conclude member.n member.own tag).applies (meaning_of self.now) }
+    pub fn may_conclude(&self, member: Member, phase: VotePhase) -> bool
+        ensures { result ≡ (conclude member.n member.own (tag_of phase)).applies (meaning_of self.now) }
     {
-        self.is_entered() & (self.has_enough(member.n, tag) & self.lacks_verdict())
+        self.is_entered() & (self.has_enough(member.n, phase) & self.lacks_verdict())
     }
 
     // Takes the verdict, the union of those votes.
-    pub fn take_verdict(&mut self, member: Member, tag: u8)
-        ensures { meaning_of self.new ≡ taking (conclude member.n member.own tag) (meaning_of self.old) }
+    pub fn take_verdict(&mut self, member: Member, phase: VotePhase)
+        ensures { meaning_of self.new ≡ taking (conclude member.n member.own (tag_of phase)) (meaning_of self.old) }
     {
-        if self.may_conclude(member, tag) {
-            self.verdict = self.union_under(member.n, tag);
+        if self.may_conclude(member, phase) {
+            self.verdict = self.union_in(member.n, phase);
         }
     }
 }

@@ -2,7 +2,7 @@
 use messages::message::BitSet;
 
 // Its tag, the set of bits that it names (a vote for one bit names the set of that bit), and who cast it.
-#[derive(Clone, Copy)]
+#[derive(Clone, Copy, PartialEq, Eq, Debug)]
 pub struct CastVote {
     pub tag: u8,
     pub bits: BitSet,

@@ -1,8 +1,7 @@
 // The trait of round rules. A rule runs one later round of a ballot at one replica, up to its verdict.
 ghost use Rattle.std.specs.Prelude.{◌≡◌, ℕ};
 ghost use Rattle.basis.specs.Refusals.{numbered};
-ghost use Rattle.messages.specs.Tags.{bits_number};
-ghost use Rattle.rules.specs.Rounds.{Round, cleared, vote_of, bit_set, set_if_any, hear_answer};
+ghost use Rattle.rules.specs.Rounds.{Round, cleared, vote_of, bit_set, set_if_any, recorded, hear_answer};
 ghost use Rattle.rules.specs.Laws.{Acts, Audible, Keeps};
 
 use crate::cast_vote::CastVote;
@@ -48,8 +47,8 @@ pub trait Rule {
         ensures { set_if_any result ≡ (meaning row.now).verdict };
 
     // Whether a vote is recorded; under the own number, whether the replica has said it.
-    fn has_recorded(row: &Self::Record, tag: u8, bits: BitSet, sender: u8) -> bool
-        ensures { result ≡ (meaning row.now).votes tag (bits_number bits) sender };
+    fn has_recorded(row: &Self::Record, vote: CastVote) -> bool
+        ensures { result ≡ recorded (vote_of vote) (meaning row.now) };
 
     ghost keeps: { Keeps acts };
 }

@@ -1,12 +1,23 @@
 -- The three steps of a round, one after another.
-use Rattle.std.proofs.Common.{◌≡◌, map, ap, add-one}
-use Rattle.rules.specs.Rounds.{bit_if_any}
-use Rattle.ballots.specs.States.{BallotState, ballot_meaning}
+use Rattle.std.proofs.Common.{◌<◌, length, map, sym, ap, ◌∙◌, arith}
+use Rattle.rules.specs.Rounds.{Round, bit_if_any}
+use Rattle.ballots.specs.States.{BallotState, ballot_meaning, place}
 use Rattle.ballots.proofs.Settling.{round_by}
+use Rattle.ballots.proofs.Rows.{row_written_if, row_new}
 use Rattle.ballots.proofs.going.settle_round.Goals as goal
 
 pub returns : goal.returns
 returns g c =
     let s : BallotState _ = record { ballot = ballot_meaning c.args.ballot.now; rounds = map g.R.Rule.meaning c.args.rounds.now; coin = c.args.coin.now } in
-    round_by g.R.Rule.acts g.C.Coin.acts c.args.member.n c.args.member.own c.args.slot c.args.later _ s _ _ _ _ _ _ (add-one c.args.later)
-    c.take_rule_steps.ensures c.later_verdict-verdict.ensures c.say_share.ensures (ap bit_if_any c.bit-shown.ensures) c.go_on.ensures.ballot c.go_on.ensures.rounds
+    let k = c.args.at.slot in
+    let r = c.args.at.later in
+    let f = g.R.Rule.meaning in
+    let d = c.index-rounds-row_of.result in
+    let y = c.take_rule_steps.new.row in
+    let low = c.args.at.of_a_ballot in
+    let fits = c.requires in
+    let within : place k r < length c.args.rounds.now = omega arith in
+    let ms = row_written_if f c.args.rounds.now c.row_of.result (place k r) d c.row_of.ensures within _ (g.R.Rule.acts.steps c.args.member.n c.args.member.own) y c.take_rule_steps.ensures in
+    let v = c.verdict-verdict.ensures ∙ ap (λ (m : Round). m.verdict) (sym (row_new f c.args.rounds.now c.row_of.result (place k r) d c.row_of.ensures within y)) in
+    round_by g.R.Rule.acts g.C.Coin.acts c.args.member.n c.args.member.own k r _ s _ _ _ _ _ _ c.round-2.ensures
+    ms v c.say_share.ensures (ap bit_if_any (c.bit-shown.ensures ∙ ap (λ q. g.C.Coin.acts.shown c.say_share.new.coin k q) (c.round.ensures ∙ sym c.round-2.ensures))) c.go_on.ensures.ballot c.go_on.ensures.rounds

@@ -1,5 +1,5 @@
 -- The first vote, and for 1 the second.
-use Rattle.std.proofs.Common.{◌≡◌, ℕ, Bool, eqb, sym, ap, ◌∙◌}
+use Rattle.std.proofs.Common.{ℕ, Bool, eqb, sym, ap, ◌∙◌}
 use Rattle.std.proofs.lemmas.Bool.{cond-true}
 use Rattle.rules.specs.Rounds.{bit_set}
 use Rattle.phases.specs.Records.{meaning_of}
@@ -12,5 +12,5 @@ returns-then-bit c =
     let own = c.args.member.own in
     let x = bit_set c.args.bit in
     let m = meaning_of c.args.round.now in
-    c.vote_for_one.ensures ∙ ap (once_second own 2) (c.record_vote.ensures ∙ ap (λ (v : ℕ). says 32 v own (begun x m)) c.only.ensures)
+    c.vote_for_one.ensures ∙ ap (once_second own 2) (c.record_vote.ensures ∙ ap (λ (v : ℕ). says 32 v own (begun x m)) c.from.ensures)
     ∙ sym (cond-true (eqb x 2) _ _ (ap (λ (b : Bool). eqb (bit_set b) 2) c.if-bit.true))

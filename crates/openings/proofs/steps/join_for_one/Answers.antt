@@ -1,5 +1,5 @@
 -- The first vote, and the second.
-use Rattle.std.proofs.Common.{◌≡◌, sym, ap, ◌∙◌}
+use Rattle.std.proofs.Common.{sym, ap, ◌∙◌}
 use Rattle.std.proofs.lemmas.Bool.{cond-true}
 use Rattle.phases.specs.Records.{meaning_of}
 use Rattle.openings.specs.Openings.{once_second, join_one}

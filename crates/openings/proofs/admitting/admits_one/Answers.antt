@@ -1,8 +1,0 @@
--- A proposal of 1, or f + 1 first votes for it.
-use Rattle.std.proofs.Common.{◌≡◌, Bool, ◌||◌, ap₂}
-use Rattle.openings.specs.Openings.{admits}
-use Rattle.openings.proofs.admitting.admits_one.Goals as goal
-
-pub returns : goal.returns
-unfolding admits
-returns c = ap₂ (λ (p q : Bool). p || q) c.has_proposed_one.ensures c.has_honest_in.ensures.value
