@@ -6,6 +6,7 @@ use Rattle.std.specs.Option.{option_or, unwrap_or}
 use Rattle.std.proofs.lemmas.List.{get_or-set_same, get_or-set_other}
 use Rattle.std.proofs.lemmas.Bool.{and_parts, eqb-true, eq-eqb, ne_eqb, or_cases, or_left, or_right, both_ways, cases_eq, cond-true, cond-false}
 use Rattle.std.proofs.lemmas.Bool.Decides.{nat_tests}
+use Rattle.std.proofs.Math.Bool.{or-false}
 use Rattle.basis.specs.Counts.{has, count}
 use Rattle.basis.specs.Halls.{listed, faults, quorum}
 use Rattle.basis.proofs.Counts.{count_cong, has_or, has_one, has_none}
@@ -53,10 +54,6 @@ taken_after t i v j l = ⊎_elim same other (cases_eq i j)
     bits : has (bit_or t.taken (2 ^ i)) j ≡ (has t.taken j || j == i)
     bits = has_or t.taken (2 ^ i) j ∙ ap (λ (b : Bool). has t.taken j || b) (has_one i j)
 
-    or_false : (b : Bool) → (b || false) ≡ b
-    or_false true = refl
-    or_false false = refl
-
     same : i ≡ j → taken_from (recorded t i v) j ≡ cond (i == j) (Some v) (taken_from t j)
     same e =
         cond-true (has (bit_or t.taken (2 ^ i)) j) _ _ (bits ∙ or_right (has t.taken j) _ (eq-eqb j i (sym e)))
@@ -65,7 +62,7 @@ taken_after t i v j l = ⊎_elim same other (cases_eq i j)
 
     other : (i ≢ j) → taken_from (recorded t i v) j ≡ cond (i == j) (Some v) (taken_from t j)
     other ne =
-        ap (λ (b : Bool). cond b (Some (at (slice_set t.shares i v) j)) None) (bits ∙ ap (λ (b : Bool). has t.taken j || b) (ne_eqb j i (λ e. ne (sym e))) ∙ or_false (has t.taken j))
+        ap (λ (b : Bool). cond b (Some (at (slice_set t.shares i v) j)) None) (bits ∙ ap (λ (b : Bool). has t.taken j || b) (ne_eqb j i (λ e. ne (sym e))) ∙ or-false (has t.taken j))
         ∙ ap (λ (x : ℕ). cond (has t.taken j) (Some x) None) (get_or-set_other t.shares i j v 0 (λ e. ne (sym e)))
         ∙ sym (cond-false (i == j) (Some v) (taken_from t j) (ne_eqb i j ne))
 

@@ -5,6 +5,7 @@ use lib.Pow.{pow-lt}
 use borrow.Author.Tests.{lt-leb}
 use Rattle.std.specs.Option.{option_or}
 use Rattle.std.proofs.lemmas.Bool.{and_parts, and_from, eqb-true, eq-eqb, ne_eqb, or_cases, or_right, both_ways, cases_eq, cases_lt, cond-true, cond-false, cond_both}
+use Rattle.std.proofs.Math.Bool.{or-false}
 use Rattle.basis.specs.Counts.{has, count}
 use Rattle.basis.specs.Halls.{largest, faults, quorum, beyond_faults}
 use Rattle.basis.proofs.Counts.{count_cong, count_same, count_more, count_yes, count_no, count_mono, quorums_meet, has_or, has_one, has_none, has_high}
@@ -61,12 +62,8 @@ one_more n k m p h t = record {
     top : has (bit_or m (2 ^ n)) n ≡ true
     top = has_or m (2 ^ n) n ∙ or_right (has m n) _ (has_one n n ∙ eq-eqb n n refl)
 
-    or_false : (b : Bool) → (b || false) ≡ b
-    or_false true = refl
-    or_false false = refl
-
     low : (j : ℕ) → j < n → has (bit_or m (2 ^ n)) j ≡ has m j
-    low j l = has_or m (2 ^ n) j ∙ ap (λ (b : Bool). has m j || b) (has_one n j ∙ ne_eqb j n (λ e. omega arith)) ∙ or_false (has m j)
+    low j l = has_or m (2 ^ n) j ∙ ap (λ (b : Bool). has m j || b) (has_one n j ∙ ne_eqb j n (λ e. omega arith)) ∙ or-false (has m j)
 
 no_more : (n k m : ℕ) (p : ℕ → Bool) → SomeOf n k p m → SomeOf (suc n) k p m
 unfolding count

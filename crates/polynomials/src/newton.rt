@@ -44,7 +44,7 @@ pub fn interpolate(choice: ReplicaSet, ys: &mut [u8])
     ensures interpolates { Interpolates }
     ensures one { AtMostOne }
 {
-    // By number: a turn changes all values below i, which no iterator over the values lends.
+    // By number: over split_last_mut the proof did not close, as no loop knows at its end what it split off.
     for i in (0..ys.len()).rev() {
         if contains(choice, i as u8) {
             let high = ys[i];
