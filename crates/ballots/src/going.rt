@@ -13,7 +13,8 @@ use coins::coin::Coin;
 use messages::message::BitSet;
 use rules::rule::Rule;
 
-// Goes on from a round that the ballot is in, by its verdict and a coin's bit.
+// Goes on from a round that the ballot is in, by its verdict and a coin's bit. The whole table is lent with the slot whose
+// fifteen rows it holds: rows are placed by slot in what is promised, and a part would have each promise twice.
 pub fn go_on<R: Rule>(
     ballot: &mut Ballot,
     rounds: &mut [R::Record],

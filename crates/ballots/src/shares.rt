@@ -10,13 +10,14 @@ use basis::member::Member;
 use coins::coin::Coin;
 use coins::share::Share;
 use messages::message::BitSet;
+use messages::read::LARGEST_SHARE;
 
 // The own share where none is taken and it is lawful.
 fn due_share(taken: Option<u8>, own: Option<u8>) -> Option<u8>
     ensures value { result ≡ due_by taken own }
 {
     match (taken, own) {
-        (None, Some(value)) if value <= 250 => Some(value),
+        (None, Some(value)) if value <= LARGEST_SHARE => Some(value),
         _ => None,
     }
 }
@@ -44,10 +45,7 @@ pub fn say_share<C: Coin>(
 )
     ensures { coin.new ≡ next_coin C.acts member.own at.slot at.later (stage_of stage) (set_if_any verdict) coin.old }
 {
-    if !stage.has_entered(at.later) {
-        return;
-    }
-    if verdict.is_none() {
+    if !stage.has_entered(at.later) || verdict.is_none() {
         return;
     }
     if let Some(value) = share_to_say(coin, member, at) {

@@ -115,17 +115,17 @@ default_cleared r h = ap meaning_of empty ∙ none_cast
         ∙ ap (λ (a : Option BitSet). record { entered = None; first = no_votes; second = no_votes; third = no_votes; verdict = a }) h.1.1.1.1
 
 -- a tag of no phase has no votes
-pub no_phase : (r : PhasedRound) (t v j : ℕ) → None ≡ phase_at t → has (for_set (under r t) v) j ≡ false
+pub no_phase : (r : PhasedRound) (t v j : ℕ) → phase_at t ≡ None → has (for_set (under r t) v) j ≡ false
 no_phase r t v j h = go (eqb t 32) (eqb t 33) (eqb t 34) h
   where
-    go : (a b c : Bool) → None ≡ cond a (Some First) (cond b (Some Second) (cond c (Some Third) None)) → has (for_set (cond a r.first (cond b r.second (cond c r.third no_votes))) v) j ≡ false
-    go true b c e = absurd (none-some _ e)
-    go false true c e = absurd (none-some _ e)
-    go false false true e = absurd (none-some _ e)
+    go : (a b c : Bool) → cond a (Some First) (cond b (Some Second) (cond c (Some Third) None)) ≡ None → has (for_set (cond a r.first (cond b r.second (cond c r.third no_votes))) v) j ≡ false
+    go true b c e = absurd (none-some _ (sym e))
+    go false true c e = absurd (none-some _ (sym e))
+    go false false true e = absurd (none-some _ (sym e))
     go false false false e = none_in v j
 
 -- and a vote under it is new
-pub unheard : (r : PhasedRound) (w : Vote) → None ≡ phase_at w.tag → hear_answer w (meaning_of r) ≡ Ok New
+pub unheard : (r : PhasedRound) (w : Vote) → phase_at w.tag ≡ None → hear_answer w (meaning_of r) ≡ Ok New
 unheard r w h = cond-false (recorded w (meaning_of r)) _ _ (no_phase r w.tag w.set w.sender h) ∙ cond-false (contradicts w (meaning_of r)) _ _ (off (nat_lt 32 w.tag) _ none)
   where
     none : voted w.tag w.sender (meaning_of r) ≡ false

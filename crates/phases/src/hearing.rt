@@ -27,9 +27,9 @@ impl PhasedRound {
     pub fn has_recorded(&self, vote: CastVote) -> bool
         ensures { result ≡ recorded (vote_of vote) (meaning_of self.now) }
     {
-        match VotePhase::of(vote.tag) {
-            Some(phase) => self.has_vote(phase, vote.bits, vote.sender),
-            None => false,
+        match VotePhase::try_from(vote.tag) {
+            Ok(phase) => self.has_vote(phase, vote.bits, vote.sender),
+            Err(_) => false,
         }
     }
 
@@ -46,7 +46,7 @@ impl PhasedRound {
         ensures answer { numbered result ≡ hear_answer (vote_of vote) (meaning_of self.old) }
         ensures left { meaning_of self.new ≡ hears (vote_of vote) (meaning_of self.old) }
     {
-        let Some(phase) = VotePhase::of(vote.tag) else {
+        let Ok(phase) = VotePhase::try_from(vote.tag) else {
             return Ok(Heard::New);
         };
         if self.has_vote(phase, vote.bits, vote.sender) {

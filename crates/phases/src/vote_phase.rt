@@ -1,36 +1,38 @@
 // The phases of votes, and the tags that their votes bear.
 ghost use Rattle.std.specs.Prelude.{◌≡◌};
-ghost use Rattle.phases.specs.Phases.{tag_of, phase_at};
+ghost use Rattle.phases.specs.Phases.{tag_of, NamesPhase};
 
-// First, second and third votes.
+// First, second and third votes, with their tags.
 #[derive(Clone, Copy, PartialEq, Eq, Debug)]
 pub enum VotePhase {
-    First,
-    Second,
-    Third,
+    First = 0x20,
+    Second = 0x21,
+    Third = 0x22,
 }
 
+// A tag that no phase's votes bear.
+#[derive(Clone, Copy, PartialEq, Eq, Debug)]
+pub struct NoVotePhase(pub u8);
+
 impl VotePhase {
-    // The tag of its votes.
     pub fn tag(self) -> u8
         ensures { result ≡ tag_of self }
     {
-        match self {
-            VotePhase::First => 0x20,
-            VotePhase::Second => 0x21,
-            VotePhase::Third => 0x22,
-        }
+        self as u8
     }
+}
 
-    // The phase whose votes bear a tag.
-    pub fn of(tag: u8) -> Option<VotePhase>
-        ensures { result ≡ phase_at tag }
-    {
+impl TryFrom<u8> for VotePhase {
+    type Error = NoVotePhase;
+
+    ghost try_from_gives = { NamesPhase };
+
+    fn try_from(tag: u8) -> Result<VotePhase, NoVotePhase> {
         match tag {
-            0x20 => Some(VotePhase::First),
-            0x21 => Some(VotePhase::Second),
-            0x22 => Some(VotePhase::Third),
-            _ => None,
+            0x20 => Ok(VotePhase::First),
+            0x21 => Ok(VotePhase::Second),
+            0x22 => Ok(VotePhase::Third),
+            _ => Err(NoVotePhase(tag)),
         }
     }
 }

@@ -5,4 +5,4 @@ use Rattle.phases.proofs.Masks.{unheard}
 use Rattle.phases.proofs.round.PhasedRound.hear_vote.Goals as goal
 
 pub returns-in_default-clause-answer : goal.returns-in_default-clause-answer
-returns-in_default-clause-answer c = sym (unheard c.args.self.now (vote_of c.args.vote) c.in_default.ensures)
+returns-in_default-clause-answer c = sym (unheard c.args.self.now (vote_of c.args.vote) c.in_default.ensures.0)
