@@ -10,7 +10,7 @@ use Rattle.basis.proofs.Totals.{count_below}
 use Rattle.basis.proofs.Thirds.{thirds}
 use Rattle.rules.specs.Rounds.{Round, voted}
 use Rattle.rules.specs.Laws.{Single, Holds, EndsRounds}
-use Rattle.phases.specs.Steps.{is_entered_lem, many, admitted, counted, enough, join, second, conclude, two_steps, three_steps, two_phase, three_phase, phases}
+use Rattle.phases.specs.Steps.{is_entered_lem, many, admitted, counted, enough, join, second, conclude, two_steps, three_steps, two_phase, three_phase, acts_of}
 use Rattle.phases.specs.Unions.{Full, by_bit}
 use Rattle.phases.specs.Turns.{two_once, three_once, two_pass, three_pass}
 use Rattle.phases.specs.Keeping.{Sound, two_sound, three_sound}
@@ -135,6 +135,6 @@ three_ends n honest m li few r = verdicts 34 n (lit< tt) (thirds n li) honest fe
     idle : (i : ℕ) → i < n → honest i ≡ true → Idle (three_steps n i) (m i)
     idle i l h = three_idle n i (m i) (r.still i l h)
 
-pub phases_end : (third : Bool) → EndsRounds (phases third)
-phases_end true = three_ends
-phases_end false = two_ends
+pub either_ends : (third : Bool) → EndsRounds (acts_of third)
+either_ends true = three_ends
+either_ends false = two_ends

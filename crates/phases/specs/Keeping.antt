@@ -11,7 +11,7 @@ use Rattle.messages.specs.Tags.{uses, is_set_tag, basic_tags, with_tag}
 use Rattle.messages.proofs.OfTags.{none_named, one_more}
 use Rattle.rules.specs.Rounds.{Round, Vote, voted, is_new}
 use Rattle.rules.specs.Laws.{Acts, Single, Audible, Deed, entering, hearing, stepping, act, Lawful, Reached, clear, did, OwnDeed, first_of_others, Laws, Keeps}
-use Rattle.phases.specs.Steps.{says, begun, is_entered_lem, many, admitted, enough, union, join, second, third, conclude, two_steps, three_steps, hears, phased, two_phase, three_phase, phases}
+use Rattle.phases.specs.Steps.{says, begun, is_entered_lem, many, admitted, enough, union, join, second, third, conclude, two_steps, three_steps, hears, phased, two_phase, three_phase, acts_of}
 use Rattle.phases.specs.Unions.{Full, Within, admitted_full, union_within, union_small, union_some, union_backed}
 use Rattle.phases.specs.Turns.{says_has, two_pass, three_pass}
 use Rattle.phases.specs.Adding.{says_only, Base, base_cleared, base_says, Own, own_none, own_then, own_says, own_ends, hears_cases}
@@ -210,6 +210,6 @@ two_keeps n own li low = laws basic_tags 33 n own (lit< tt) two_steps two_tags (
 pub three_keeps : Keeps three_phase
 three_keeps n own li low = laws (with_tag basic_tags 34) 34 n own (lit< tt) three_steps three_tags (three_own n own)
 
-pub phases_keep : (third : Bool) → Keeps (phases third)
-phases_keep true = three_keeps
-phases_keep false = two_keeps
+pub either_keeps : (third : Bool) → Keeps (acts_of third)
+either_keeps true = three_keeps
+either_keeps false = two_keeps

@@ -117,5 +117,5 @@ three_phase = phased (with_tag basic_tags 34) 34 three_steps
 abbrev pub steps_of : Bool → ℕ → ℕ → List (Step Round)
 steps_of third n own = cond third (three_steps n own) (two_steps n own)
 
-abbrev pub phases : Bool → Acts
-phases third = phased (cond third (with_tag basic_tags 34) basic_tags) (cond third 34 33) (steps_of third)
+abbrev pub acts_of : Bool → Acts
+acts_of third = phased (cond third (with_tag basic_tags 34) basic_tags) (cond third 34 33) (steps_of third)

@@ -135,6 +135,6 @@ module _ (n own : ℕ) where
   three_pass m = settled_passed (three_steps n own) 5 m three_once (omega arith)
 
   -- and none is left
-  pub pass_both : (third : Bool) (m m' : Round) → m' ≡ passed (steps_of third n own) m → (m' ≡ settled (steps_of third n own) 5 m) × Idle (steps_of third n own) m'
-  pass_both true m m' e = (e ∙ sym (three_pass m), subst (Idle (three_steps n own)) (sym e) (passed_idle (three_steps n own) m three_once))
-  pass_both false m m' e = (e ∙ sym (two_pass m), subst (Idle (two_steps n own)) (sym e) (passed_idle (two_steps n own) m two_once))
+  pub either_pass : (third : Bool) (m m' : Round) → m' ≡ passed (steps_of third n own) m → (m' ≡ settled (steps_of third n own) 5 m) × Idle (steps_of third n own) m'
+  either_pass true m m' e = (e ∙ sym (three_pass m), subst (Idle (three_steps n own)) (sym e) (passed_idle (three_steps n own) m three_once))
+  either_pass false m m' e = (e ∙ sym (two_pass m), subst (Idle (two_steps n own)) (sym e) (passed_idle (two_steps n own) m two_once))

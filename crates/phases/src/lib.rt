@@ -2,6 +2,8 @@
 #![tactic(auto)]
 
 pub mod counting;
+#[cfg(test)]
+mod endings;
 pub mod hearing;
 pub mod phased;
 pub mod recording;

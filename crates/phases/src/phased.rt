@@ -3,8 +3,8 @@ ghost use Rattle.std.specs.Prelude.{◌≡◌, ℕ};
 ghost use Rattle.basis.specs.Steps.{Idle};
 ghost use Rattle.rules.specs.Laws.{EndsRounds};
 ghost use Rattle.phases.specs.Records.{meaning_of};
-ghost use Rattle.phases.specs.Steps.{steps_of, phases};
-ghost use Rattle.phases.specs.Keeping.{phases_keep};
+ghost use Rattle.phases.specs.Steps.{steps_of, acts_of};
+ghost use Rattle.phases.specs.Keeping.{either_keeps};
 
 use crate::round::PhasedRound;
 use crate::vote_phase::VotePhase;
@@ -25,9 +25,9 @@ pub type ThreePhase = Phased<true>;
 
 // Takes all steps of a round, in their order; none is left that applies. At rest no round is without its verdict.
 pub fn take_phases<const THIRD: bool>(round: &mut PhasedRound, member: Member)
-    ensures left { meaning_of round.new ≡ (phases THIRD).steps member.n member.own (meaning_of round.old) }
+    ensures left { meaning_of round.new ≡ (acts_of THIRD).steps member.n member.own (meaning_of round.old) }
     ensures none { Idle (steps_of THIRD member.n member.own) (meaning_of round.new) }
-    ensures ends { EndsRounds (phases THIRD) }
+    ensures ends { EndsRounds (acts_of THIRD) }
 {
     round.join_first(member, false);
     round.join_first(member, true);
@@ -45,9 +45,9 @@ impl<const THIRD: bool> Rule for Phased<THIRD> {
 
     ghost meaning = { meaning_of };
 
-    ghost acts = { phases THIRD };
+    ghost acts = { acts_of THIRD };
 
-    ghost keeps = { phases_keep THIRD };
+    ghost keeps = { either_keeps THIRD };
 
     fn tags() -> VoteTags {
         let tags = VoteTags::basic();

@@ -4,8 +4,8 @@ use Rattle.basis.specs.Steps.{taking}
 use Rattle.basis.proofs.Stepping.{passed}
 use Rattle.phases.specs.Records.{meaning_of}
 use Rattle.phases.specs.Steps.{join, second, third, conclude, steps_of}
-use Rattle.phases.specs.Turns.{pass_both}
-use Rattle.phases.proofs.Ending.{phases_end}
+use Rattle.phases.specs.Turns.{either_pass}
+use Rattle.phases.proofs.Ending.{either_ends}
 use denote.Param.{number}
 use Rattle.phases.specs.contracts.phased.take_phases.{THIRD-type}
 use Rattle.phases.proofs.phased.take_phases.Goals as goal
@@ -17,8 +17,8 @@ returns-then-this-ne0 g c =
     let m = meaning_of c.args.round.now in
     let set : THIRD-type (number g.row.THIRD) ≡ true = search rules in
     let done : meaning_of c.take_verdict.new.self ≡ passed (steps_of true n own) m = c.take_verdict.ensures ∙ ap (taking (conclude n own 34)) (c.vote_third.ensures ∙ ap (taking (third n own)) (c.vote_second.ensures ∙ ap (taking (second n own)) (c.join_first-2.ensures ∙ ap (taking (join n own 2)) c.join_first.ensures))) in
-    let p = pass_both n own _ m _ (done ∙ ap (λ (b : Bool). passed (steps_of b n own) m) (sym set)) in
-    record { left = p.0; none = p.1; ends = phases_end _ }
+    let p = either_pass n own _ m _ (done ∙ ap (λ (b : Bool). passed (steps_of b n own) m) (sym set)) in
+    record { left = p.0; none = p.1; ends = either_ends _ }
 
 pub returns-else-this-ne0 : goal.returns-else-this-ne0
 returns-else-this-ne0 g c =
@@ -27,5 +27,5 @@ returns-else-this-ne0 g c =
     let m = meaning_of c.args.round.now in
     let set : THIRD-type (number g.row.THIRD) ≡ false = search rules in
     let done : meaning_of c.take_verdict-else-this-ne0.new.self ≡ passed (steps_of false n own) m = c.take_verdict-else-this-ne0.ensures ∙ ap (taking (conclude n own 33)) (c.vote_second.ensures ∙ ap (taking (second n own)) (c.join_first-2.ensures ∙ ap (taking (join n own 2)) c.join_first.ensures)) in
-    let p = pass_both n own _ m _ (done ∙ ap (λ (b : Bool). passed (steps_of b n own) m) (sym set)) in
-    record { left = p.0; none = p.1; ends = phases_end _ }
+    let p = either_pass n own _ m _ (done ∙ ap (λ (b : Bool). passed (steps_of b n own) m) (sym set)) in
+    record { left = p.0; none = p.1; ends = either_ends _ }

@@ -1,0 +1,89 @@
+// What a round of four replicas comes to under either rule.
+use crate::phased::{ThreePhase, TwoPhase};
+use crate::round::PhasedRound;
+use crate::vote_phase::VotePhase;
+use basis::member::Member;
+use messages::message::BitSet;
+use rules::cast_vote::CastVote;
+use rules::rule::Rule;
+use std::test::Fail;
+
+// Replica 0 of four.
+fn first_of_four() -> Result<Member, Fail> {
+    match Member::new(4, 0) {
+        Ok(member) => Ok(member),
+        Err(_) => Err(Fail::new("no member")),
+    }
+}
+
+// Hears a vote for 1 under a tag from replicas 1 and 2.
+fn hear_two(round: &mut PhasedRound, tag: u8) {
+    for sender in 1..3 {
+        let _ = round.hear_vote(CastVote {
+            tag,
+            bits: BitSet::One,
+            sender,
+        });
+    }
+}
+
+// A round that was entered with 1, with first and second votes for 1 of replicas 1 and 2.
+fn voted_in(member: Member) -> PhasedRound {
+    let mut round = PhasedRound::default();
+    round.enter_with(member, true);
+    hear_two(&mut round, 0x20);
+    hear_two(&mut round, 0x21);
+    round
+}
+
+// The verdict once all steps are taken that apply.
+fn verdict_of<R: Rule>(row: &mut R::Record, member: Member) -> Option<BitSet> {
+    R::take_steps(row, member);
+    R::verdict(row)
+}
+
+// Whether replica 0 has said a vote for 1 under a tag.
+fn has_said<R: Rule>(row: &R::Record, tag: u8) -> bool {
+    R::has_recorded(
+        row,
+        CastVote {
+            tag,
+            bits: BitSet::One,
+            sender: 0,
+        },
+    )
+}
+
+#[test]
+fn two_phases_end_by_second_votes(rt: HostRuntime) -> Result<(), Fail> {
+    let member = first_of_four()?;
+    let mut round = voted_in(member);
+    assert_eq!(rt;
+        verdict_of::<TwoPhase>(&mut round, member),
+        Some(BitSet::One)
+    );
+    assert!(rt; has_said::<TwoPhase>(&round, 0x21));
+    assert!(rt; !has_said::<TwoPhase>(&round, 0x22));
+    Ok(())
+}
+
+#[test]
+fn three_phases_end_by_third_votes(rt: HostRuntime) -> Result<(), Fail> {
+    let member = first_of_four()?;
+    let mut round = voted_in(member);
+    assert_eq!(rt; verdict_of::<ThreePhase>(&mut round, member), None);
+    assert!(rt; has_said::<ThreePhase>(&round, 0x22));
+    hear_two(&mut round, 0x22);
+    assert_eq!(rt;
+        verdict_of::<ThreePhase>(&mut round, member),
+        Some(BitSet::One)
+    );
+    Ok(())
+}
+
+#[test]
+fn tags_name_their_phases(rt: HostRuntime) -> Result<(), Fail> {
+    assert_eq!(rt; VotePhase::try_from(0x22).ok(), Some(VotePhase::Third));
+    assert_eq!(rt; VotePhase::try_from(0x23).ok(), None);
+    Ok(())
+}
