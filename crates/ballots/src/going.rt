@@ -53,7 +53,7 @@ pub fn settle_round<R: Rule, C: Coin>(
     take_rule_steps::<R>(row, ballot.stage, member, at.later);
     let verdict = R::verdict(row);
     say_share(coin, ballot.stage, verdict, member, at);
-    let shown = coin.bit(at.slot, at.round());
+    let shown = coin.bit(at.tossed_round());
     go_on::<R>(ballot, rounds, member, at.slot, at.round(), verdict, shown);
 }
 

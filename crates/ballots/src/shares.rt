@@ -30,8 +30,8 @@ pub fn share_to_say<C: Coin>(coin: &C, member: Member, at: LaterRound) -> Option
         return None;
     }
     due_share(
-        coin.share_of(at.slot, at.round(), member.own),
-        coin.own_share(at.slot, at.round()),
+        coin.share_of(at.tossed_round(), member.own),
+        coin.own_share(at.tossed_round()),
     )
 }
 

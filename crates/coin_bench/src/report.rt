@@ -7,6 +7,7 @@ use crate::timing::Times;
 use anyhow::anyhow;
 use basis::hall::fault_limit;
 use coins::coin::Coin;
+use coins::tossed_round::TossedRound;
 use std::{env, fmt};
 
 // The listed hall sizes.
@@ -38,9 +39,13 @@ fn bit_word(shown: Option<bool>) -> &'static str
 // Says what is shown in a hall.
 fn say_shown(rt: &HostRuntime, mut scene: Scene) -> anyhow::Result<()> {
     let n = scene.n;
-    take_from_to(&mut scene.coin, n, 0, n - 1, 0, 1);
+    let first = TossedRound {
+        ballot: 0,
+        round: 1,
+    };
+    take_from_to(&mut scene.coin, n, 0, n - 1, first);
     let f = fault_limit(n);
-    let word = bit_word(scene.coin.bit(0, 1));
+    let word = bit_word(scene.coin.bit(first));
     println!(rt; "{n} replicas, {f} wrong: shows {word}")?;
     Ok(())
 }

@@ -1,6 +1,5 @@
 // A toss with f wrong shares in the worst place: at the lowest replicas, so that the right choice is the last one.
 ghost use Rattle.std.specs.Prelude.{◌≡◌, ◌<◌, ◌≤◌, IfOk};
-ghost use Rattle.coins.specs.Coins.{Tossed};
 ghost use Rattle.coin_bench.specs.Scenes.{right_value, error_of, dealt_value, taken_between};
 
 use basis::hall::fault_limit;
@@ -8,6 +7,7 @@ use basis::refusal::Refusal;
 use coins::coin::Coin;
 use coins::share::Share;
 use coins::share_coin::{ShareCoin, TOSSES};
+use coins::tossed_round::TossedRound;
 
 // A hall of n, and the coin of its highest replica.
 #[derive(Drop)]
@@ -56,16 +56,16 @@ pub fn value_of(n: u8, j: u8) -> u8
     ((u32::from(right_value_at(fault_limit(n), j + 1)) + error_at(n, j)) % 251) as u8
 }
 
-// Takes the shares of the replicas from one to below another, for a ballot and a round.
-pub fn take_from_to(coin: &mut ShareCoin, n: u8, from: u8, to: u8, ballot: u8, round: u8)
-    requires { (from ≤ to) × ((to ≤ 16) × (Tossed ballot round)) }
-    ensures { coin.new ≡ taken_between n ballot round from to coin.old }
+// Takes the shares of the replicas from one to below another, for a round.
+pub fn take_from_to(coin: &mut ShareCoin, n: u8, from: u8, to: u8, at: TossedRound)
+    requires { (from ≤ to) × (to ≤ 16) }
+    ensures { coin.new ≡ taken_between n at.ballot at.round from to coin.old }
 {
     for sender in from..to {
         let value = value_of(n, sender);
         let _ = coin.take(Share {
-            ballot,
-            round,
+            ballot: at.ballot,
+            round: at.round,
             sender,
             value,
         });

@@ -1,9 +1,10 @@
 // What every coin does: it shows bits, and takes shares if it uses any.
 ghost use Rattle.std.specs.Prelude.{◌≡◌};
 ghost use Rattle.basis.specs.Refusals.{numbered};
-ghost use Rattle.coins.specs.Coins.{Acts, Keeps, Tossed, Sender, Lawful, take_answer, take_after};
+ghost use Rattle.coins.specs.Coins.{Acts, Keeps, Sender, Lawful, take_answer, take_after};
 
 use crate::share::Share;
+use crate::tossed_round::TossedRound;
 use basis::heard::Heard;
 use basis::refusal::Reason;
 
@@ -17,19 +18,17 @@ pub trait Coin {
         ensures { result ≡ acts.uses };
 
     // The bit that it shows.
-    fn bit(&self, ballot: u8, round: u8) -> Option<bool>
-        requires { Tossed ballot round }
-        ensures { result ≡ acts.shown self.now ballot round };
+    fn bit(&self, at: TossedRound) -> Option<bool>
+        ensures { result ≡ acts.shown self.now at.ballot at.round };
 
     // Its own share, if it has own shares.
-    fn own_share(&self, ballot: u8, round: u8) -> Option<u8>
-        requires { Tossed ballot round }
-        ensures { result ≡ acts.own self.now ballot round };
+    fn own_share(&self, at: TossedRound) -> Option<u8>
+        ensures { result ≡ acts.own self.now at.ballot at.round };
 
     // The share taken of a sender.
-    fn share_of(&self, ballot: u8, round: u8, sender: u8) -> Option<u8>
-        requires { (Tossed ballot round) × (Sender sender) }
-        ensures { result ≡ acts.taken_of self.now ballot round sender };
+    fn share_of(&self, at: TossedRound, sender: u8) -> Option<u8>
+        requires { Sender sender }
+        ensures { result ≡ acts.taken_of self.now at.ballot at.round sender };
 
     // Takes a share: new, known, or refused where another share of that sender was taken for that ballot and round. A coin
     // that uses no shares is not asked to; what it does all the same is what its calls come to.

@@ -1,11 +1,12 @@
 // The dealt coin: one number for each ballot, and no shares.
 ghost use Rattle.std.specs.Prelude.{◌≡◌, replicate};
-ghost use Rattle.coins.specs.Coins.{Tossed, NewCoin};
+ghost use Rattle.coins.specs.Coins.{NewCoin};
 ghost use Rattle.coins.specs.Dealt.{dealt_acts, dealt_bit_lem};
 ghost use Rattle.std.proofs.Common.{rules};
 
 use crate::coin::Coin;
 use crate::share::Share;
+use crate::tossed_round::TossedRound;
 use basis::heard::Heard;
 use basis::refusal::Reason;
 use basis::replicas::contains;
@@ -34,11 +35,10 @@ impl DealtCoin {
     }
 
     // The bit of a ballot and a round.
-    pub fn dealt_bit(&self, ballot: u8, round: u8) -> bool
-        requires { Tossed ballot round }
-        ensures { result ≡ dealt_bit_lem self.now ballot round }
+    pub fn dealt_bit(&self, at: TossedRound) -> bool
+        ensures { result ≡ dealt_bit_lem self.now at.ballot at.round }
     {
-        contains(self.numbers[usize::from(ballot)], round)
+        contains(self.numbers[usize::from(at.ballot)], at.round)
     }
 }
 
@@ -51,15 +51,15 @@ impl Coin for DealtCoin {
         false
     }
 
-    fn bit(&self, ballot: u8, round: u8) -> Option<bool> {
-        Some(self.dealt_bit(ballot, round))
+    fn bit(&self, at: TossedRound) -> Option<bool> {
+        Some(self.dealt_bit(at))
     }
 
-    fn own_share(&self, _ballot: u8, _round: u8) -> Option<u8> {
+    fn own_share(&self, _at: TossedRound) -> Option<u8> {
         None
     }
 
-    fn share_of(&self, _ballot: u8, _round: u8, _sender: u8) -> Option<u8> {
+    fn share_of(&self, _at: TossedRound, _sender: u8) -> Option<u8> {
         None
     }
 

@@ -6,3 +6,4 @@ pub mod dealt;
 pub mod share;
 pub mod share_coin;
 pub mod toss;
+pub mod tossed_round;

@@ -1,13 +1,13 @@
 // The share coin: it shows the low bit of the value at 0 of a polynomial that enough held shares lie on.
 ghost use Rattle.std.specs.Prelude.{◌≡◌, ◌<◌, IfOk};
 ghost use Rattle.basis.specs.Members.{member_made};
-ghost use Rattle.coins.specs.Coins.{Tossed};
 ghost use Rattle.coins.specs.Shared.{place, toss_at, share_acts, Sound, ShowsExactly, coin_told, MadeOf};
 ghost use Rattle.coins.specs.Keeping.{shared_keeps};
 
 use crate::coin::Coin;
 use crate::share::Share;
 use crate::toss::Toss;
+use crate::tossed_round::TossedRound;
 use basis::heard::Heard;
 use basis::member::Member;
 use basis::refusal::{Reason, Refusal};
@@ -22,13 +22,12 @@ pub struct ShareCoin {
     tosses: [Toss; TOSSES],
 }
 
-// Where the toss of a ballot and a round stands.
-fn toss_place(ballot: u8, round: u8) -> usize
-    requires { Tossed ballot round }
-    ensures value { result ≡ place ballot round }
+// Where the toss of a round stands.
+fn toss_place(at: TossedRound) -> usize
+    ensures value { result ≡ place at.ballot at.round }
     ensures within { result < 240 }
 {
-    usize::from(ballot) * 15 + (usize::from(round) - 1)
+    usize::from(at.ballot) * 15 + (usize::from(at.round) - 1)
 }
 
 impl ShareCoin {
@@ -43,21 +42,19 @@ impl ShareCoin {
         Ok(ShareCoin { member, tosses })
     }
 
-    // The toss of a ballot and a round.
-    fn toss(&self, ballot: u8, round: u8) -> Toss
-        requires { Tossed ballot round }
-        ensures { result ≡ toss_at self.now ballot round }
+    // The toss of a round.
+    fn toss(&self, at: TossedRound) -> Toss
+        ensures { result ≡ toss_at self.now at.ballot at.round }
     {
-        self.tosses[toss_place(ballot, round)]
+        self.tosses[toss_place(at)]
     }
 
-    // The bit shown for a ballot and a round: exactly what polynomials say of the held shares.
-    pub fn shown(&self, ballot: u8, round: u8) -> Option<bool>
-        requires { Tossed ballot round }
-        ensures value { result ≡ share_acts.shown self.now ballot round }
-        ensures exact { Sound self.now → ShowsExactly self.now ballot round result }
+    // The bit shown for a round: exactly what polynomials say of the held shares.
+    pub fn shown(&self, at: TossedRound) -> Option<bool>
+        ensures value { result ≡ share_acts.shown self.now at.ballot at.round }
+        ensures exact { Sound self.now → ShowsExactly self.now at.ballot at.round result }
     {
-        self.toss(ballot, round).shown
+        self.toss(at).shown
     }
 }
 
@@ -70,21 +67,24 @@ impl Coin for ShareCoin {
         true
     }
 
-    fn bit(&self, ballot: u8, round: u8) -> Option<bool> {
-        self.shown(ballot, round)
+    fn bit(&self, at: TossedRound) -> Option<bool> {
+        self.shown(at)
     }
 
-    fn own_share(&self, ballot: u8, round: u8) -> Option<u8> {
-        Some(self.toss(ballot, round).own)
+    fn own_share(&self, at: TossedRound) -> Option<u8> {
+        Some(self.toss(at).own)
     }
 
-    fn share_of(&self, ballot: u8, round: u8, sender: u8) -> Option<u8> {
-        self.toss(ballot, round).taken_of(sender)
+    fn share_of(&self, at: TossedRound, sender: u8) -> Option<u8> {
+        self.toss(at).taken_of(sender)
     }
 
     fn take(&mut self, share: Share) -> Result<Heard, Reason> {
         let member = self.member;
-        let place = toss_place(share.ballot, share.round);
+        let place = toss_place(TossedRound {
+            ballot: share.ballot,
+            round: share.round,
+        });
         self.tosses[place].take(member, share.sender, share.value)
     }
 }

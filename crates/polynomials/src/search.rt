@@ -59,8 +59,6 @@ fn is_hopeless(n: u8, met: u32, j: u8) -> bool
 // The low bit of the value at 0 of a polynomial modulo 251, of degree at most f, that meets 2f + 1 held shares of the
 // replicas below n; none where there is no such polynomial. The search tries every choice of f + 1 held shares of the
 // first 2f + 1 replicas: at most f of those are missed by the polynomial that is looked for.
-// Kept whole: inlined into some callers it is slower by more than a tenth.
-#[inline(never)]
 pub fn shown_bit(n: u8, held: ReplicaSet, shares: &[u8; 16]) -> Option<bool>
     requires { Hall n }
     ensures value { result ≡ shown_of n held (at shares.now) }

@@ -1,5 +1,5 @@
 -- The three steps of a round, one after another.
-use Rattle.std.proofs.Common.{◌<◌, length, map, sym, ap, ◌∙◌, arith}
+use Rattle.std.proofs.Common.{◌<◌, length, map, sym, ap, ap₂, ◌∙◌, arith}
 use Rattle.rules.specs.Rounds.{Round, bit_if_any}
 use Rattle.ballots.specs.States.{BallotState, ballot_meaning, place}
 use Rattle.ballots.proofs.Settling.{round_by}
@@ -19,5 +19,5 @@ returns g c =
     let within : place k r < length c.args.rounds.now = omega arith in
     let ms = row_written_if f c.args.rounds.now c.row_of.result (place k r) d c.row_of.ensures within _ (g.R.Rule.acts.steps c.args.member.n c.args.member.own) y c.take_rule_steps.ensures in
     let v = c.verdict-verdict.ensures ∙ ap (λ (m : Round). m.verdict) (sym (row_new f c.args.rounds.now c.row_of.result (place k r) d c.row_of.ensures within y)) in
-    round_by g.R.Rule.acts g.C.Coin.acts c.args.member.n c.args.member.own k r _ s _ _ _ _ _ _ c.round-2.ensures
-    ms v c.say_share.ensures (ap bit_if_any (c.bit-shown.ensures ∙ ap (λ q. g.C.Coin.acts.shown c.say_share.new.coin k q) (c.round.ensures ∙ sym c.round-2.ensures))) c.go_on.ensures.ballot c.go_on.ensures.rounds
+    round_by g.R.Rule.acts g.C.Coin.acts c.args.member.n c.args.member.own k r _ s _ _ _ _ _ _ c.round.ensures
+    ms v c.say_share.ensures (ap bit_if_any (c.bit-shown.ensures ∙ ap₂ (λ p q. g.C.Coin.acts.shown c.say_share.new.coin p q) c.tossed_round.ensures.ballot (c.tossed_round.ensures.round ∙ sym c.round.ensures))) c.go_on.ensures.ballot c.go_on.ensures.rounds

@@ -11,11 +11,11 @@ pub loop-sender-init : goal.loop-sender-init
 unfolding so_many_taken
 loop-sender-init c =
     let e : c.args.from - c.args.from ≡ 0 = omega arith in
-    sym (ap (λ (x : ℕ). so_many_taken c.args.n c.args.ballot c.args.round c.args.from x c.args.coin.now) e)
+    sym (ap (λ (x : ℕ). so_many_taken c.args.n c.args.at.ballot c.args.at.round c.args.from x c.args.coin.now) e)
 
 pub loop-sender-preserved : goal.loop-sender-preserved
 loop-sender-preserved c =
     c.take.ensures.left
-    ∙ ap (λ (v : ℕ). take_after share_acts c.loop-sender.coin (record { ballot = c.args.ballot; round = c.args.round; sender = c.loop-sender.sender; value = v })) c.value_of-value.ensures
-    ∙ ap (λ (x : ShareCoin). take_after share_acts x (dealt_share c.args.n c.args.ballot c.args.round c.loop-sender.sender)) c.loop-sender.invariant
-    ∙ sym (one_taken c.args.n c.args.ballot c.args.round c.args.from c.loop-sender.sender c.args.coin.now (omega arith))
+    ∙ ap (λ (v : ℕ). take_after share_acts c.loop-sender.coin (record { ballot = c.args.at.ballot; round = c.args.at.round; sender = c.loop-sender.sender; value = v })) c.value_of-value.ensures
+    ∙ ap (λ (x : ShareCoin). take_after share_acts x (dealt_share c.args.n c.args.at.ballot c.args.at.round c.loop-sender.sender)) c.loop-sender.invariant
+    ∙ sym (one_taken c.args.n c.args.at.ballot c.args.at.round c.args.from c.loop-sender.sender c.args.coin.now (omega arith))

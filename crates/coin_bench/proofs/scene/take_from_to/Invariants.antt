@@ -4,4 +4,4 @@ use Rattle.coin_bench.specs.Scenes.{taken_between}
 use Rattle.coin_bench.proofs.scene.take_from_to.Given as goal
 
 abbrev pub invariant-loop-sender : goal.invariant-loop-sender
-invariant-loop-sender l = l.coin ≡ taken_between l.n l.ballot l.round l.from l.sender l.initial.coin
+invariant-loop-sender l = l.coin ≡ taken_between l.n l.at.ballot l.at.round l.from l.sender l.initial.coin
