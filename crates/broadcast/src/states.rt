@@ -38,6 +38,8 @@ pub struct Running {
     member: Member,
 }
 
+// Tables are lent to each call as parameters: a struct that lends them would be seen after the call by position, and
+// would owe a clause on each reference. Round records count here by their number alone, whatever a rule keeps in them.
 impl Fresh {
     // Opens a replica: a listed hall size, an own number below it, tables that are large enough; it clears them.
     pub fn open<S: Sheet>(

@@ -74,6 +74,7 @@ fn amount_of(cents: &[u8], receipts: &[u8]) -> Option<Amount>
     })
 }
 
+// The phase of a word; a function, since the phase and `TryFrom` are both of other crates.
 fn phase_of(word: &[u8]) -> Option<Phase>
     ensures { result ≡ phase_of_lem word.now }
 {

@@ -1,5 +1,5 @@
 // What the bench prints, a line for each hall size.
-ghost use Rattle.std.specs.Prelude.{◌≡◌, ◌/◌, ◌≤◌};
+ghost use Rattle.std.specs.Prelude.{◌≡◌, ◌/◌, ◌≤◌, Some};
 ghost use Rattle.coin_bench.specs.Scenes.{bit_text, tenfold};
 
 use crate::scene::{Scene, take_from_to};
@@ -25,14 +25,19 @@ fn new_scene(n: u8) -> anyhow::Result<Scene>
     Scene::new(n).map_err(|_| anyhow!("the coin was refused"))
 }
 
-// What is shown, in words; no Display, whose fmt promises nothing of the text.
-fn bit_word(shown: Option<bool>) -> &'static str
-    ensures { result.now ≡ bit_text shown }
-{
-    match shown {
-        None => "nothing",
-        Some(false) => "0",
-        Some(true) => "1",
+// What is shown, in words.
+#[derive(Clone, Copy)]
+struct Shown(Option<bool>);
+
+impl fmt::Display for Shown {
+    ghost output = { λ s. Some (bit_text s.0) };
+
+    fn fmt<W: fmt::Write>(&self, f: &mut fmt::Formatter<W>) -> fmt::Result {
+        f.write_str(match self.0 {
+            None => "nothing",
+            Some(false) => "0",
+            Some(true) => "1",
+        })
     }
 }
 
@@ -45,8 +50,8 @@ fn say_shown(rt: &HostRuntime, mut scene: Scene) -> anyhow::Result<()> {
     };
     take_from_to(&mut scene.coin, n, 0, n - 1, first);
     let f = fault_limit(n);
-    let word = bit_word(scene.coin.bit(first));
-    println!(rt; "{n} replicas, {f} wrong: shows {word}")?;
+    let shown = Shown(scene.coin.bit(first));
+    println!(rt; "{n} replicas, {f} wrong: shows {shown}")?;
     Ok(())
 }
 

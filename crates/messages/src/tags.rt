@@ -59,7 +59,7 @@ impl VoteTags {
 }
 
 impl Kind {
-    // The kind by its tag, or none where the tag is not used.
+    // The kind by its tag, or none where the tag is not used; no `TryFrom`, since the format says which are.
     pub fn of(tag: u8, format: Format) -> Option<Kind>
         ensures shape { option_map kind_shape result ≡ shape_at (uses format.tags) format.shares tag }
         ensures tag { IfSome result (λ k. kind_tag k ≡ tag) }
@@ -100,6 +100,7 @@ impl Kind {
     }
 }
 
+// Tags are read by a method, as refusals' numbers are: `u8::from(phase)` would not say which number it is.
 impl Phase {
     pub fn tag(self) -> u8
         ensures { result ≡ phase_tag self }

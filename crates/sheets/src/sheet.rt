@@ -42,7 +42,7 @@ pub trait Sheet: Copy {
     fn empty_row() -> Self::Row
         ensures { result ≡ rows.vacant };
 
-    // Whether a row holds this sheet.
+    // Whether a row holds this sheet. Each kind says so itself: a body here would ask `Eq` of every kind.
     fn is_in(&self, place: &Self::Row) -> bool
         ensures { result ≡ holds (bytes self.now) (rows.held place.now) };
 
