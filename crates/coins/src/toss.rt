@@ -88,6 +88,8 @@ impl Toss {
     }
 
     // Takes a share: new, known, or refused where another share of the sender is taken.
+    // Kept whole: inlined into some callers its search is slower by more than a tenth.
+    #[inline(never)]
     pub fn take(&mut self, member: Member, sender: u8, value: u8) -> Result<Heard, Reason>
         requires { Sender sender }
         ensures answer { numbered result ≡ answer_by (taken_from self.old sender) value }
