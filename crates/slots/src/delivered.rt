@@ -10,6 +10,7 @@ use messages::message::Phase;
 use sheets::sheet::Sheet;
 
 // The sheet that is delivered for a slot, if any.
+// It takes n and own, and no Member: a listed n would ask more of callers.
 pub fn delivered_sheet<S: Sheet>(
     records: &[Slot],
     places: &[S::Row],

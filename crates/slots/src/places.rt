@@ -98,6 +98,7 @@ impl<S: Sheet> SlotSheets<'_, S> {
 }
 
 // The sheet recorded of a sender in a slot, if any.
+// A function for one look at a table: with the struct it would be two lines at each call.
 pub fn sheet_from<S: Sheet>(
     places: &[S::Row],
     n: u8,
