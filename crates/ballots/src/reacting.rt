@@ -12,7 +12,7 @@ use openings::proposing::propose;
 use openings::steps::take_opening_steps;
 use phases::round::PhasedRound;
 
-// The bit with which a ballot goes on: the one bit of the verdict, or the coin's.
+// The bit with which a ballot goes on: the one bit of the verdict, or the coin's. Nothing shorter says the three cases.
 pub fn bit_to_enter(verdict: BitSet, coin: bool) -> bool
     ensures { bit_set result ≡ next_bit (bits_number verdict) (bit_set coin) }
 {

@@ -12,7 +12,7 @@ use coins::share::Share;
 use messages::message::BitSet;
 use messages::read::LARGEST_SHARE;
 
-// The own share where none is taken and it is lawful.
+// The own share where none is taken and it is lawful. A match: a chain of options would ask both questions in closures.
 fn due_share(taken: Option<u8>, own: Option<u8>) -> Option<u8>
     ensures value { result ≡ due_by taken own }
 {

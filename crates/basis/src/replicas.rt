@@ -33,7 +33,7 @@ pub fn with(members: ReplicaSet, j: u8) -> ReplicaSet
     members | (1 << j)
 }
 
-// How many replicas of a hall of n are in the set.
+// How many replicas of a hall of n are in the set. A function beside `size`, which cuts nothing off and counts at once.
 pub fn size_in(members: ReplicaSet, n: u8) -> u32
     ensures { result ≡ count n (has members) }
 {

@@ -50,7 +50,7 @@ fn compare<S: Sheet>(before: Option<S>, sheet: &S, same: bool) -> Result<Heard, 
 }
 
 // Hears a sheet message: its sender may send it, nothing else is recorded; it is recorded, and the steps of its slot
-// are taken.
+// are taken. The parts of the message are parameters: a struct of them would be taken apart at once.
 pub fn hear_sheet<S: Sheet>(
     records: &mut [Slot],
     places: &mut [S::Row],

@@ -34,6 +34,7 @@ fn right_value_at(f: u8, z: u8) -> u8
     requires { z ≤ 16 }
     ensures { result ≡ right_value f z }
 {
+    // `fold` over the range was tried, and its proof did not close; `pow` would ask that f is at most 5
     let mut v: u32 = 1;
     for _ in 0..f {
         v = v * (u32::from(z) + 7) % 251;

@@ -33,7 +33,8 @@ impl VoteTags {
         VoteTags { mask: 0 }
     }
 
-    // These tags and one more from 0x22 to 0x2F; any other number adds nothing.
+    // These tags and one more from 0x22 to 0x2F; any other number adds nothing. A number, since rules draw their tags
+    // from an open range.
     pub fn and(self, tag: u8) -> VoteTags
         ensures value { result ≡ with_tag self tag }
         ensures names { (t : ℕ) → uses result t ≡ uses self t || (is_set_tag t && t == tag) }

@@ -2,7 +2,7 @@
 ghost use Rattle.std.specs.Prelude.{◌≡◌};
 ghost use Rattle.phases.specs.Phases.{tag_of, NamesPhase};
 
-// First, second and third votes, with their tags.
+// First, second and third votes, with their tags. A type beside `Vote`, which has the two that one bit can go with.
 #[derive(Clone, Copy, PartialEq, Eq, Debug)]
 pub enum VotePhase {
     First = 0x20,
