@@ -26,6 +26,7 @@ impl fmt::Display for InWords {
     }
 }
 
+// The runtime and the line's number go from call to call by themselves: a struct of the two would only be taken apart.
 fn say_not_understood(rt: &HostRuntime, line: u64) -> anyhow::Result<()> {
     println!(rt; "line {line} not understood")?;
     Ok(())
