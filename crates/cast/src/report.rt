@@ -11,6 +11,7 @@ use std::io::Read;
 use std::ops::ControlFlow;
 use text::words::Lines;
 
+// The runtime and the line's number go from call to call by themselves: a struct of the two would only be taken apart.
 fn say_not_understood(rt: &HostRuntime, line: u64) -> anyhow::Result<()> {
     println!(rt; "line {line} not understood")?;
     Ok(())

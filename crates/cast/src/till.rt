@@ -81,6 +81,7 @@ impl State {
     }
 }
 
+// The tables and the number of round records are lent as they stand: each call takes the three by themselves.
 #[derive(Drop)]
 pub struct Till {
     number: u8,
