@@ -37,14 +37,13 @@ pub fn may_come(phase: Phase, slot: u8, sender: u8) -> bool
     }
 }
 
-// What hearing a sheet comes to, by what is recorded of the sender: nothing, the same, or another.
-fn compare<S: Sheet>(before: Option<S>, sheet: &S, same: bool) -> Result<Heard, Refusal>
-    requires { same ≡ holds (S.Sheet.bytes sheet.now) (option_map S.Sheet.bytes before) }
-    ensures { told result ≡ compared (option_map S.Sheet.bytes before) (S.Sheet.bytes sheet.now) }
+// What hearing a sheet comes to, by what the row of its sender holds: nothing, the same, or another.
+fn compare<S: Sheet>(row: S::Row, sheet: &S) -> Result<Heard, Refusal>
+    ensures { told result ≡ compared (S.Sheet.rows.held row) (S.Sheet.bytes sheet.now) }
 {
-    match before {
+    match S::from_row(row) {
         None => Ok(Heard::New),
-        Some(_) if same => Ok(Heard::Known),
+        Some(_) if sheet.is_in(&row) => Ok(Heard::Known),
         Some(_) => Err(Reason::Contradiction.at(4)),
     }
 }
@@ -71,9 +70,7 @@ pub fn hear_sheet<S: Sheet>(
         return Err(Reason::SendNotFromSlot.at(3));
     }
     let at = place_of(member.n, phase, slot, sender);
-    let before = S::from_row(places[at]);
-    let same = sheet.is_in(&places[at]);
-    let heard = compare(before, sheet, same)?;
+    let heard = compare(places[at], sheet)?;
     if heard == Heard::New {
         put_sheet(places, at, sheet);
         settle::<S>(records, places, member.n, member.own, slot);

@@ -11,63 +11,57 @@ use messages::message::{Message, Phase};
 use sheets::sheet::Sheet;
 use slots::places::sheet_from;
 
-// The message of a phase for a slot, if it is said.
-fn said_message<S: Sheet>(
-    places: &[S::Row],
-    member: Member,
-    phase: Phase,
-    slot: u8,
-) -> Option<Message<S>>
-    requires slot { slot < member.n }
-    requires places { all_places member.n ≤ length places.now }
-    ensures { option_map (on_sheet S.Sheet.bytes) result ≡ said_message_lem S.Sheet.rows member.n member.own places.now phase slot }
-{
-    if !may_come(phase, slot, member.own) {
-        return None;
-    }
-    let sheet = sheet_from(places, member.n, phase, slot, member.own)?;
-    Some(Message::Sheet { phase, slot, sheet })
+// The sheets that a replica has recorded, of which those under its own number are said.
+#[derive(Drop)]
+pub struct Recorded<'a, S: Sheet> {
+    pub member: Member,
+    pub places: &'a [S::Row],
+    ghost enough: { all_places member.n ≤ length places.now },
 }
 
-// The same, if it stands at or after a position.
-fn message_from<S: Sheet>(
-    places: &[S::Row],
-    member: Member,
-    phase: Phase,
-    slot: u8,
-    from: u32,
-) -> Option<Message<S>>
-    requires slot { slot < member.n }
-    requires places { all_places member.n ≤ length places.now }
-    ensures { option_map (on_sheet S.Sheet.bytes) result ≡ at_or_after from (said_message_lem S.Sheet.rows member.n member.own places.now phase slot) }
-{
-    said_message(places, member, phase, slot).filter(|message| message.position() >= from)
-}
-
-// The first message of a phase at or after a position.
-fn earliest_in<S: Sheet>(
-    places: &[S::Row],
-    member: Member,
-    phase: Phase,
-    from: u32,
-) -> Option<Message<S>>
-    requires { all_places member.n ≤ length places.now }
-    ensures { option_map (on_sheet S.Sheet.bytes) result ≡ earliest S.Sheet.rows member.n member.own places.now phase from member.n }
-{
-    for slot in 0..member.n {
-        if let Some(message) = message_from(places, member, phase, slot, from) {
-            return Some(message);
+impl<S: Sheet> Recorded<'_, S> {
+    // The message of a phase for a slot, if it is said.
+    fn said_message(&self, phase: Phase, slot: u8) -> Option<Message<S>>
+        requires { slot < self.now.member.n }
+        ensures { option_map (on_sheet S.Sheet.bytes) result ≡ said_message_lem S.Sheet.rows self.now.member.n self.now.member.own self.now.places.now phase slot }
+    {
+        let Member { n, own } = self.member;
+        if !may_come(phase, slot, own) {
+            return None;
         }
+        let sheet = sheet_from(self.places, n, phase, slot, own)?;
+        Some(Message::Sheet { phase, slot, sheet })
     }
-    None
-}
 
-// The first sheet message said at or after a position.
-pub fn next_message<S: Sheet>(places: &[S::Row], member: Member, from: u32) -> Option<Message<S>>
-    requires { all_places member.n ≤ length places.now }
-    ensures { option_map (on_sheet S.Sheet.bytes) result ≡ next_said S.Sheet.rows member.n member.own places.now from }
-{
-    earliest_in(places, member, Phase::Send, from)
-        .or_else(|| earliest_in(places, member, Phase::Echo, from))
-        .or_else(|| earliest_in(places, member, Phase::Ready, from))
+    // The same, if it stands at or after a position.
+    fn message_from(&self, phase: Phase, slot: u8, from: u32) -> Option<Message<S>>
+        requires { slot < self.now.member.n }
+        ensures { option_map (on_sheet S.Sheet.bytes) result ≡ at_or_after from (said_message_lem S.Sheet.rows self.now.member.n self.now.member.own self.now.places.now phase slot) }
+    {
+        self.said_message(phase, slot)
+            .filter(|message| message.position() >= from)
+    }
+
+    // The first message of a phase at or after a position. A loop: with `find_map` the proof did not close.
+    fn earliest_in(&self, phase: Phase, from: u32) -> Option<Message<S>>
+        ensures { option_map (on_sheet S.Sheet.bytes) result ≡ earliest S.Sheet.rows self.now.member.n self.now.member.own self.now.places.now phase from self.now.member.n }
+    {
+        for slot in 0..self.member.n {
+            if let Some(message) = self.message_from(phase, slot, from) {
+                return Some(message);
+            }
+        }
+        None
+    }
+
+    // The first sheet message said at or after a position.
+    pub fn next_message(&self, from: u32) -> Option<Message<S>>
+        ensures { option_map (on_sheet S.Sheet.bytes) result ≡ next_said S.Sheet.rows self.now.member.n self.now.member.own self.now.places.now from }
+    {
+        let echo = || self.earliest_in(Phase::Echo, from);
+        let ready = || self.earliest_in(Phase::Ready, from);
+        self.earliest_in(Phase::Send, from)
+            .or_else(echo)
+            .or_else(ready)
+    }
 }

@@ -12,7 +12,7 @@ ghost use Rattle.broadcast.specs.Opening.{fresh_told, open_answer, open_after, o
 
 use crate::calls::{are_large_enough, is_another, take_sheet};
 use crate::open::clear_to;
-use crate::say::next_message;
+use crate::say::Recorded;
 use basis::heard::Heard;
 use basis::member::Member;
 use basis::refusal::{Reason, Refusal};
@@ -163,7 +163,8 @@ impl Running {
         if !are_large_enough(member.n, records.len(), rounds, places.len()) {
             return Err(Reason::TablesTooSmall.at(0));
         }
-        let Some(message) = next_message::<S>(places, member, from) else {
+        let recorded = Recorded::<S> { member, places };
+        let Some(message) = recorded.next_message(from) else {
             return Ok(None);
         };
         message.write(out)?;

@@ -84,7 +84,7 @@ pub enum Shape {
     Share,
 }
 
-// What kind of message a tag begins.
+// What kind of message a tag begins. A set has its tag as a number, since a rule draws it from an open range.
 #[derive(Clone, Copy, PartialEq, Eq, Debug)]
 pub enum Kind {
     Sheet(Phase),

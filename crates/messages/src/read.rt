@@ -48,7 +48,7 @@ fn read_head<S: Sheet>(packet: &[u8], format: Format) -> Result<Kind, Refusal>
     Ok(kind)
 }
 
-// The round of a packet, if it is one of those from the first on.
+// The round of a packet, if it is one of those from the first on. Bytes are read by their places, which refusals name.
 fn read_round(packet: &[u8], first: u8) -> Result<u8, Refusal>
     requires { 6 ≤ length packet.now }
     ensures { told result ≡ cond (round_in first packet.now) (Ok (slice_index packet.now 4)) (refused 10 4) }

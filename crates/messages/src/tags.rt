@@ -1,7 +1,7 @@
 // Tags: the first byte of a message says its shape.
 ghost use Rattle.std.specs.Prelude.{◌≡◌, ℕ, ◌&&◌, ◌||◌, ◌==◌, IfSome};
 ghost use Rattle.std.specs.Option.{option_map};
-ghost use Rattle.messages.specs.Tags.{phase_tag, vote_tag, bits_number, NumbersBits, kind_shape, kind_tag, uses, is_set_tag, shape_at, basic_tags, with_tag};
+ghost use Rattle.messages.specs.Tags.{phase_tag, phase_of_lem, vote_tag, vote_of, bits_number, NumbersBits, kind_shape, kind_tag, uses, is_set_tag, shape_at, basic_tags, with_tag};
 
 use crate::message::{BitSet, Kind, Phase, Shape, Vote};
 use basis::replicas::{contains, with};
@@ -66,11 +66,8 @@ impl Kind {
         ensures tag { IfSome result (λ k. kind_tag k ≡ tag) }
     {
         match tag {
-            0x10 => Some(Kind::Sheet(Phase::Send)),
-            0x11 => Some(Kind::Sheet(Phase::Echo)),
-            0x12 => Some(Kind::Sheet(Phase::Ready)),
-            0x20 => Some(Kind::Bit(Vote::First)),
-            0x21 => Some(Kind::Bit(Vote::Second)),
+            0x10..=0x12 => Some(Kind::Sheet(Phase::of(tag))),
+            0x20 | 0x21 => Some(Kind::Bit(Vote::of(tag))),
             t @ 0x22..=0x2f if format.tags.includes(t) => Some(Kind::Set(t)),
             SHARE if format.shares => Some(Kind::Share),
             _ => None,
@@ -101,12 +98,23 @@ impl Kind {
     }
 }
 
-// Tags are read by a method, as refusals' numbers are: `u8::from(phase)` would not say which number it is.
+// `tag` by the name that it has at a whole message; `of` for a tag that is known to be of a phase, or of a vote: `TryFrom`
+// would have an error that no caller could meet.
 impl Phase {
     pub fn tag(self) -> u8
         ensures { result ≡ phase_tag self }
     {
         self as u8
+    }
+
+    pub fn of(tag: u8) -> Phase
+        ensures { result ≡ phase_of_lem tag }
+    {
+        match tag {
+            0x10 => Phase::Send,
+            0x11 => Phase::Echo,
+            _ => Phase::Ready,
+        }
     }
 }
 
@@ -115,6 +123,15 @@ impl Vote {
         ensures { result ≡ vote_tag self }
     {
         self as u8
+    }
+
+    pub fn of(tag: u8) -> Vote
+        ensures { result ≡ vote_of tag }
+    {
+        match tag {
+            0x20 => Vote::First,
+            _ => Vote::Second,
+        }
     }
 }
 

@@ -5,3 +5,4 @@ pub mod OfTakings
 pub mod OfLabels
 pub mod OfLabelsLemmas
 pub mod OfTakingsLemmas
+pub mod Tests

@@ -3,13 +3,16 @@ use Rattle.std.specs.Prelude.{◌≡◌, ℕ, ◌+◌, ◌^◌, ◌<◌, ◌≤�
 use Rattle.std.proofs.Common.{sym, ap, ap₂, subst, ◌∙◌, div-one, arith, eq-eqb, eqb-true, length-take, length-drop, take-append-drop}
 use Rattle.std.proofs.Math.Bridge.{le_prop}
 use borrow.Rule.Slice.PartMut.{put_mid, post_of}
+use Rattle.std.proofs.lemmas.Slice.Eq.{bytes_eq-Decides}
 use Rattle.std.proofs.lemmas.List.{drop-drop}
+use Rattle.std.proofs.lemmas.Bool.{cond-true}
 use Rattle.basis.specs.Bytes.{be, value, Octets}
 use Rattle.basis.proofs.Digits.{value_lt, value_be_lt, be_value, be_inj, octets_be, octets_take, octets_drop, octets_append}
-use Rattle.sheets.specs.Holds.{if_lawful}
+use Rattle.sheets.specs.Holds.{holds, if_lawful}
 use Rattle.sheets.specs.OfLabels.{file_bytes, label_bytes, label_lawful, label_held, label_row, part}
 use Rattle.sheets.specs.declared.kinds.Label.{Label}
 use Rattle.sheets.specs.declared.kinds.LabelRow.{LabelRow}
+use Rattle.sheets.specs.Tests.{no_true}
 
 abbrev Four : List ℕ → Type 0
 Four p = (length p ≤ 4) × (4 ≤ length p)
@@ -153,3 +156,22 @@ read_five s t u v w a b c d e i j k l m h len pa pb pc pd pe ei ej ek el em =
     let m32 : m ≡ value (drop 32 s) = em ∙ ap value (pe ∙ w4) in
     ap₂ (λ x y. file_bytes (x ∷ y ∷ k ∷ l ∷ []) m) i0 j8 ∙ ap₂ (λ x y. file_bytes (part 0 s ∷ part 8 s ∷ x ∷ y ∷ []) m) k16 l24
     ∙ ap (λ x. file_bytes (label_row s).fingerprint x) m32 ∙ bytes_row s h len
+
+-- a row that is present holds a label exactly if it has the label's fields
+pub is_held : (x : Label) (r : LabelRow) → r.present ≡ true → Agree x.fingerprint r.fingerprint x.size r.size → true ≡ holds (label_bytes x) (label_held r)
+is_held x r here a =
+    let p = x.fingerprint in
+    let q = r.fingerprint in
+    let files : file_bytes q r.size ≡ label_bytes x =
+    simp (sym a.0, sym a.1, sym a.2, sym a.3, sym a.4) in
+    let e : label_held r ≡ Some (label_bytes x) = cond-true r.present _ _ here ∙ ap Some files in
+    sym (ap (holds (label_bytes x)) e ∙ (bytes_eq-Decides (label_bytes x) (label_bytes x)).1 refl)
+
+pub not_held : (x : Label) (r : LabelRow) → Wide r.fingerprint → r.size < 2 ^ 32 → (r.present ≡ true → Agree x.fingerprint r.fingerprint x.size r.size → ⊥) → false ≡ holds (label_bytes x) (label_held r)
+not_held x r w f h = go r.present refl
+  where
+    go : (b : Bool) → r.present ≡ b → false ≡ holds (label_bytes x) (cond b (Some (file_bytes r.fingerprint r.size)) None)
+    go false i = refl
+    go true i = sym (no_true _ (λ t.
+        let e = (bytes_eq-Decides (file_bytes r.fingerprint r.size) (label_bytes x)).0 t in
+        h i (file_alone x.fingerprint r.fingerprint x.size r.size x.wide w x.fits f (sym e))))

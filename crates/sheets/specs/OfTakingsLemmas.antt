@@ -5,13 +5,15 @@ use Rattle.std.proofs.Math.Bridge.{le_prop}
 use borrow.Rule.Slice.PartMut.{put_mid, post_of}
 use Rattle.std.proofs.Math.Dec.{T_prop}
 use Rattle.std.specs.Int.{w64}
+use Rattle.std.proofs.lemmas.Slice.Eq.{bytes_eq-Decides}
 use Rattle.std.proofs.lemmas.List.{drop-drop}
 use Rattle.std.proofs.lemmas.Int.{to_z-of_z, of_z-to_z, ints}
-use Rattle.std.proofs.lemmas.Bool.{and_parts}
+use Rattle.std.proofs.lemmas.Bool.{cond-true, and_parts}
 use Rattle.basis.specs.Bytes.{be, value, Octets}
 use Rattle.basis.specs.Refusals.{refused}
 use Rattle.basis.proofs.Digits.{value_lt, value_be_lt, be_value, be_inj, octets_be, octets_take, octets_drop, octets_append}
-use Rattle.sheets.specs.Holds.{if_lawful}
+use Rattle.sheets.specs.Holds.{holds, if_lawful}
+use Rattle.sheets.specs.Tests.{no_true}
 use Rattle.sheets.specs.OfTakings.{in_range_lem, amount_bytes, takings_bytes, takings_lawful, takings_held, takings_row, takings_made, fields}
 use Rattle.sheets.specs.declared.kinds.Takings.{Takings}
 use Rattle.sheets.specs.declared.kinds.TakingsRow.{TakingsRow}
@@ -119,3 +121,20 @@ made_facts z n x e = go (in_range_lem z) refl e
     go : (b : Bool) → in_range_lem z ≡ b → Ok (fields x) ≡ cond b (Ok (record { cents = z; receipts = n })) (refused 1 0) → (in_range_lem z ≡ true) × (x.cents ≡ z) × (x.receipts ≡ n)
     go true i e = let q : fields x ≡ record { cents = z; receipts = n } = cc in (i, ap (λ r. r.cents) q, ap (λ r. r.receipts) q)
     go false i e = absurd (let z : ◌≡◌ {A = ℕ} 0 1 = cc in omega arith)
+
+-- a row holds a sheet exactly if it has the sheet's fields
+pub is_held : (x : Takings) (r : TakingsRow) → x.cents ≡ r.cents → x.receipts ≡ r.receipts → true ≡ holds (takings_bytes x) (takings_held r)
+is_held x r p q =
+    let i : in_range_lem r.cents ≡ true = ap in_range_lem (sym p) ∙ in_range_of x in
+    let e : takings_held r ≡ Some (takings_bytes x) = cond-true (in_range_lem r.cents) _ _ i ∙ ap₂ (λ a b. Some (amount_bytes a b)) (sym p) (sym q) in
+    sym (ap (holds (takings_bytes x)) e ∙ (bytes_eq-Decides (takings_bytes x) (takings_bytes x)).1 refl)
+
+pub not_held : (x : Takings) (r : TakingsRow) → r.receipts < 2 ^ 32 → ((x.cents ≡ r.cents) → (x.receipts ≡ r.receipts) → ⊥) → false ≡ holds (takings_bytes x) (takings_held r)
+not_held x r f h = go (in_range_lem r.cents) refl
+  where
+    go : (b : Bool) → in_range_lem r.cents ≡ b → false ≡ holds (takings_bytes x) (cond b (Some (amount_bytes r.cents r.receipts)) None)
+    go false i = refl
+    go true i = sym (no_true _ (λ t.
+        let e = (bytes_eq-Decides (amount_bytes r.cents r.receipts) (takings_bytes x)).0 t in
+        let q = amount_alone r.cents x.cents r.receipts x.receipts i (in_range_of x) f x.fits e in
+        h (sym q.0) (sym q.1)))

@@ -2,7 +2,7 @@
 use Rattle.std.proofs.Common.{refl}
 use Rattle.broadcast.specs.Saying.{earliest}
 use Rattle.broadcast.proofs.Saying.{none_more, this_one}
-use Rattle.broadcast.proofs.say.earliest_in.Goals as goal
+use Rattle.broadcast.proofs.say.Recorded.earliest_in.Goals as goal
 
 pub loop-slot-init : goal.loop-slot-init
 unfolding earliest
@@ -12,10 +12,10 @@ pub returns-in-Some : goal.returns-in-Some
 returns-in-Some g c =
     let m = g.S.Sheet in
     let rows = m.rows in
-    this_one rows c.args.member.n c.args.member.own c.args.places.now c.args.phase c.args.from c.loop-slot.slot c.args.member.n _ c.loop-slot-test.true c.loop-slot.invariant c.in-Some.ensures
+    this_one rows c.args.self.now.member.n c.args.self.now.member.own c.args.self.now.places.now c.args.phase c.args.from c.loop-slot.slot c.args.self.now.member.n _ c.loop-slot-test.true c.loop-slot.invariant c.in-Some.ensures
 
 pub loop-slot-preserved : goal.loop-slot-preserved
 loop-slot-preserved g c =
     let m = g.S.Sheet in
     let rows = m.rows in
-    none_more rows c.args.member.n c.args.member.own c.args.places.now c.args.phase c.args.from c.loop-slot.slot c.loop-slot.invariant c.in_default.ensures
+    none_more rows c.args.self.now.member.n c.args.self.now.member.own c.args.self.now.places.now c.args.phase c.args.from c.loop-slot.slot c.loop-slot.invariant c.in_default.ensures
