@@ -124,6 +124,16 @@ no_phase r t v j h = go (eqb t 32) (eqb t 33) (eqb t 34) h
     go false false true e = absurd (none-some _ (sym e))
     go false false false e = none_in v j
 
+-- nor is there a mask under it
+pub none_under : (r : PhasedRound) (t : ℕ) → phase_at t ≡ None → under r t ≡ no_votes
+none_under r t h = go (eqb t 32) (eqb t 33) (eqb t 34) h
+  where
+    go : (a b c : Bool) → cond a (Some First) (cond b (Some Second) (cond c (Some Third) None)) ≡ None → cond a r.first (cond b r.second (cond c r.third no_votes)) ≡ no_votes
+    go true b c e = absurd (none-some _ (sym e))
+    go false true c e = absurd (none-some _ (sym e))
+    go false false true e = absurd (none-some _ (sym e))
+    go false false false e = refl
+
 -- and a vote under it is new
 pub unheard : (r : PhasedRound) (w : Vote) → phase_at w.tag ≡ None → hear_answer w (meaning_of r) ≡ Ok New
 unheard r w h = cond-false (recorded w (meaning_of r)) _ _ (no_phase r w.tag w.set w.sender h) ∙ cond-false (contradicts w (meaning_of r)) _ _ (off (nat_lt 32 w.tag) _ none)

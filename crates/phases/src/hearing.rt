@@ -11,6 +11,7 @@ use crate::vote_phase::VotePhase;
 use basis::heard::Heard;
 use basis::member::Member;
 use basis::refusal::Reason;
+use basis::replicas::contains;
 use messages::message::BitSet;
 use rules::cast_vote::CastVote;
 
@@ -23,14 +24,11 @@ impl PhasedRound {
     }
 
     // Whether a vote is recorded; under another tag than a phase's none is.
-    #[tactic(auto, using(crate::proofs::Masks::no_phase))]
     pub fn has_recorded(&self, vote: CastVote) -> bool
         ensures { result ≡ recorded (vote_of vote) (meaning_of self.now) }
     {
-        match VotePhase::try_from(vote.tag) {
-            Ok(phase) => self.has_vote(phase, vote.bits, vote.sender),
-            Err(_) => false,
-        }
+        let cast = self.votes_under(vote.tag).cast_for(vote.bits);
+        contains(cast, vote.sender)
     }
 
     // Whether a vote that is not recorded contradicts one that is: only first votes may be cast for both bits.

@@ -24,6 +24,17 @@ impl PhasedRound {
         }
     }
 
+    // The votes under a tag; under another tag than a phase's there are none.
+    #[tactic(auto, using(crate::proofs::Masks::none_under))]
+    pub fn votes_under(&self, tag: u8) -> Votes
+        ensures { result ≡ under self.now tag }
+    {
+        match VotePhase::try_from(tag) {
+            Ok(phase) => self.votes_in(phase),
+            Err(_) => Votes::default(),
+        }
+    }
+
     // Records a vote of a phase.
     #[tactic(auto, using(crate::proofs::Masks::added_first, crate::proofs::Masks::added_second, crate::proofs::Masks::added_third))]
     pub fn record_vote(&mut self, phase: VotePhase, bits: BitSet, sender: u8)
