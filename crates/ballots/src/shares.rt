@@ -12,14 +12,11 @@ use coins::share::Share;
 use messages::message::BitSet;
 use messages::read::LARGEST_SHARE;
 
-// The own share where none is taken and it is lawful. A match: a chain of options would ask both questions in closures.
+// The own share where none is taken and it is lawful.
 fn due_share(taken: Option<u8>, own: Option<u8>) -> Option<u8>
     ensures value { result ≡ due_by taken own }
 {
-    match (taken, own) {
-        (None, Some(value)) if value <= LARGEST_SHARE => Some(value),
-        _ => None,
-    }
+    own.filter(|value| taken.is_none() && *value <= LARGEST_SHARE)
 }
 
 // The own share that is still to be said in a later round.

@@ -56,7 +56,7 @@ impl Reason {
         }
     }
 
-    // The number by which users know the reason; no two reasons share one. Not `From`, which would not say what number.
+    // The number by which users know the reason; no two reasons share one. A call by the name that users know.
     pub fn number(self) -> u8
         ensures value { result ≡ number_of self }
         ensures apart { NumbersApart }

@@ -17,7 +17,7 @@ pub struct Tables {
     pub places: [TakingsRow; 36],
 }
 
-// A refusal by its number and place.
+// A refusal by its number and place: tests pin the numbers that users know, which a `Refusal` would not show.
 pub type Told<T> = Result<T, (u8, usize)>;
 
 // Replica 0 of four, which has offered, and its tables.

@@ -5,13 +5,10 @@ use crate::script::{Forgery, Offer};
 use crate::till::{Fault, Till};
 use basis::heard::Heard;
 use messages::message::Message;
-use messages::write::HEAD;
+use messages::write::TAKINGS_MESSAGE;
 use sheets::kinds::Takings;
 use sheets::sheet::Sheet;
 use std::alloc::Global;
-
-// How many bytes a sheet message of takings has: its head, its slot and its sheet.
-const MESSAGE_LEN: usize = HEAD + 1 + <Takings as Sheet>::LEN;
 
 // The size stands beside the tills: all calls take it as a `u8`, which the length of a Vec is not.
 #[derive(Drop)]
@@ -77,7 +74,7 @@ impl Hall {
             slot,
             ..
         } = forgery;
-        let mut packet = [0u8; MESSAGE_LEN];
+        let mut packet = [0u8; TAKINGS_MESSAGE];
         let message = Message::Sheet { phase, slot, sheet };
         let len = message.write(&mut packet)?;
         self.hear(to, from, &packet[..len])
@@ -93,10 +90,11 @@ impl Hall {
         self.till(to)?.hear(from, packet)
     }
 
+    // A loop for its effect, as the two below: each turn changes the tills.
     // Passes on all messages of a till to another, positions rising; how many were new. A till says one send, and an
     // echo and a ready for each slot at most.
     fn pass_all(&mut self, from: u8, to: u8) -> u64 {
-        let mut packet = [0u8; MESSAGE_LEN];
+        let mut packet = [0u8; TAKINGS_MESSAGE];
         let mut messages = 0u64;
         let mut position = 0u32;
         for _ in 0..2 * u32::from(self.n) + 1 {
@@ -122,8 +120,7 @@ impl Hall {
         messages
     }
 
-    // All tills are heard by all others, numbers rising; how many messages were new. A loop and no `sum`, since each
-    // turn changes the tills.
+    // All tills are heard by all others, numbers rising; how many messages were new.
     fn sweep(&mut self) -> u64 {
         let mut messages = 0u64;
         for from in 0..self.n {

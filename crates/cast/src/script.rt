@@ -74,7 +74,7 @@ fn amount_of(cents: &[u8], receipts: &[u8]) -> Option<Amount>
     })
 }
 
-// The phase of a word; a function, since the phase and `TryFrom` are both of other crates.
+// The phase of a word. `FromStr` takes a text, which a line's bytes need not be; `TryFrom` has an error that nobody reads.
 fn phase_of(word: &[u8]) -> Option<Phase>
     ensures { result ≡ phase_of_lem word.now }
 {

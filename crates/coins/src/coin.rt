@@ -8,7 +8,8 @@ use crate::tossed_round::TossedRound;
 use basis::heard::Heard;
 use basis::refusal::Reason;
 
-// A coin shows at most one bit for each ballot and each round from 1 to 15. Asking it changes nothing.
+// A coin shows at most one bit for each ballot and each round from 1 to 15. Asking it changes nothing. Senders are numbers
+// below 16, said in one short clause: a type of them would be made and taken apart at each mask.
 pub trait Coin {
     // What its calls come to.
     ghost acts: { Acts Self };

@@ -18,7 +18,7 @@ pub struct DealtCoin {
 }
 
 impl DealtCoin {
-    // The coin of one number for each ballot. No From: as a conversion it would read no plainer beside `same`.
+    // The coin of one number for each ballot. A constructor beside `same`: `From` names neither.
     pub fn new(numbers: [u16; 16]) -> DealtCoin
         ensures value { result.numbers ≡ numbers }
         ensures fresh { NewCoin dealt_acts result }

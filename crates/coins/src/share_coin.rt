@@ -12,7 +12,7 @@ use basis::heard::Heard;
 use basis::member::Member;
 use basis::refusal::{Reason, Refusal};
 
-// How many tosses there are: 15 rounds in each of 16 ballots.
+// How many tosses there are: 15 rounds in each of 16 ballots. One row of them, as own shares are handed in.
 pub const TOSSES: usize = 240;
 
 // A replica's place in its hall, and a toss for each ballot and round.

@@ -7,10 +7,14 @@ ghost use Rattle.messages.specs.Writing.{on_sheet, written, body, tag_of, body_l
 use crate::message::Message;
 use crate::read::body_len;
 use basis::refusal::{Reason, Refusal};
+use sheets::kinds::Takings;
 use sheets::sheet::Sheet;
 
 // How many bytes stand before the body: the tag and the length.
 pub const HEAD: usize = 3;
+
+// How many bytes a sheet message of takings has: its head, its slot and its sheet.
+pub const TAKINGS_MESSAGE: usize = HEAD + 1 + <Takings as Sheet>::LEN;
 
 impl<S: Sheet> Message<S> {
     // How many bytes the message is written in.

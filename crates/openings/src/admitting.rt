@@ -1,4 +1,5 @@
 // What the opening round admits, and the second votes that count.
+// Functions, since the record is of another crate: a type around it would only add a field to each clause.
 ghost use Rattle.std.specs.Prelude.{◌≡◌, ℕ, cond, ◌&&◌, ◌||◌, ◌==◌};
 ghost use Rattle.basis.specs.Counts.{has, count};
 ghost use Rattle.basis.specs.Halls.{quorum};

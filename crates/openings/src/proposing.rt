@@ -1,4 +1,5 @@
 // Proposing and proposing again.
+// Functions, since the record is of another crate: a type around it would only add a field to each clause.
 ghost use Rattle.std.specs.Prelude.{◌≡◌, ℕ};
 ghost use Rattle.basis.specs.Steps.{taking};
 ghost use Rattle.rules.specs.Rounds.{bit_set};

@@ -1,4 +1,5 @@
 // The steps of the opening round, each taken where it applies.
+// Functions, since the record is of another crate: a type around it would only add a field to each clause.
 ghost use Rattle.std.specs.Prelude.{◌≡◌, ℕ};
 ghost use Rattle.basis.specs.Steps.{taking, Idle};
 ghost use Rattle.rules.specs.Rounds.{bit_set};
@@ -13,7 +14,7 @@ use messages::message::BitSet;
 use phases::round::PhasedRound;
 use phases::vote_phase::VotePhase;
 
-// Whether f + 1 first votes for 1 are recorded, and the own one or a second vote is not.
+// Whether f + 1 first votes for 1 are recorded, and the own one or a second vote is not: another step than for 0.
 pub fn may_join_one(round: &PhasedRound, member: Member) -> bool
     ensures { result ≡ (join_one member.n member.own).applies (meaning_of round.now) }
 {

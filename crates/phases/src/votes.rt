@@ -26,7 +26,7 @@ impl Votes {
         }
     }
 
-    // One vote more.
+    // One vote more. A sender below 16 is one short clause, and not a type, as at coins.
     pub fn add(&mut self, bits: BitSet, sender: u8)
         requires { sender < 16 }
         ensures { self.new ≡ with_vote self.old (bits_number bits) sender }

@@ -25,7 +25,8 @@ impl fmt::Display for Entry {
 }
 
 // The entry of a line of three numbers with single spaces between them. A till from 256 on and receipts from 2^32 on
-// are none; an amount beyond 64 bits is the nearest one, which is out of range all the same.
+// are none; an amount beyond 64 bits is the nearest one, which is out of range all the same. `cast` reads an amount so too:
+// two programs share no crate but the library's, and a line of a program is none of its business.
 pub fn parse(line: &[u8]) -> Option<Entry>
     ensures { result ≡ entry_of line.now }
 {

@@ -1,6 +1,7 @@
 // What the program says of each line, and at the end.
 use crate::entry::{Entry, parse};
-use crate::trip::{HALL, SEND_LEN, round_trip};
+use crate::trip::{HALL, round_trip};
+use messages::write::TAKINGS_MESSAGE;
 use std::io::Read;
 use text::hex::push_hex;
 use text::words::Lines;
@@ -47,7 +48,7 @@ fn say_line(rt: &HostRuntime, line: &[u8]) -> anyhow::Result<Outcome> {
         )?;
         return Ok(Outcome::Unread);
     };
-    let mut packet = [0u8; SEND_LEN];
+    let mut packet = [0u8; TAKINGS_MESSAGE];
     match round_trip(entry, &mut packet) {
         Ok(Some(back)) => {
             say_sent(rt, back, &packet)?;

@@ -10,15 +10,11 @@ use basis::refusal::Refusal;
 use messages::message::{Message, Part, Phase};
 use messages::read::read;
 use messages::tags::{Format, VoteTags};
-use messages::write::HEAD;
 use sheets::kinds::Takings;
 use sheets::sheet::Sheet;
 
 // The hall that the messages are for.
 pub const HALL: u8 = 4;
-
-// How many bytes a send message of takings has: its head, its slot and its sheet.
-pub const SEND_LEN: usize = HEAD + 1 + <Takings as Sheet>::LEN;
 
 // The entry of a send message for a slot, if the bytes of its sheet are takings.
 fn entry_at(slot: u8, bytes: &[u8]) -> Option<Entry>

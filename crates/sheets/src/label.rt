@@ -42,6 +42,7 @@ impl Sheet for Label {
 
     ghost empty = { first_of (Prim.search rules, Prim.grind arith) };
 
+    // The four numbers are written out, here and in `decode`: a loop over them needs an invariant, and says no more.
     fn encode(&self, out: &mut [u8]) {
         out[0..8].copy_from_slice(&self.fingerprint[0].to_be_bytes());
         out[8..16].copy_from_slice(&self.fingerprint[1].to_be_bytes());

@@ -33,6 +33,7 @@ pub trait Sheet: Copy {
     fn decode(s: &[u8]) -> Option<Self>
         ensures { option_map bytes result ≡ if_lawful lawful s.now };
 
+    // From, TryFrom and Default of rows would each have a ghost member of its own for what `rows` says in one.
     fn to_row(&self) -> Self::Row
         ensures { result ≡ rows.row (bytes self.now) };
 

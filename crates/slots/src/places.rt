@@ -40,7 +40,7 @@ pub struct SlotSheets<'a, S: Sheet> {
 }
 
 impl<S: Sheet> SlotSheets<'_, S> {
-    // The sheet recorded of a sender, if any.
+    // The sheet recorded of a sender, if any. That it is below n is a clause: a type of senders would name its table.
     pub fn sheet_from(&self, phase: Phase, sender: u8) -> Option<S>
         requires { sender < self.now.n }
         ensures { option_map S.Sheet.bytes result ≡ recorded S.Sheet.rows self.now.n self.now.places.now phase self.now.slot sender }

@@ -5,7 +5,7 @@ use messages::read::read;
 use messages::tags::{Format, VoteTags};
 use sheets::kinds::{Label, Takings};
 
-// A packet, and the number and place of its refusal, if it is refused.
+// A packet, and the number and place of its refusal, if it is refused: the numbers that users know are pinned here.
 #[derive(Drop)]
 struct Case {
     packet: &'static [u8],
