@@ -113,7 +113,7 @@ two_phase = phased basic_tags 33 two_steps
 abbrev pub three_phase : Acts
 three_phase = phased (with_tag basic_tags 34) 34 three_steps
 
--- the rule with third votes or without
+-- the rule with third votes or without; each of the two keeps its own name, by which theorems speak of it
 abbrev pub steps_of : Bool → ℕ → ℕ → List (Step Round)
 steps_of third n own = cond third (three_steps n own) (two_steps n own)
 

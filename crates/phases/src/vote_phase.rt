@@ -15,6 +15,7 @@ pub enum VotePhase {
 pub struct NoVotePhase(pub u8);
 
 impl VotePhase {
+    // The tag, by the name that it has at a message.
     pub fn tag(self) -> u8
         ensures { result ≡ tag_of self }
     {
