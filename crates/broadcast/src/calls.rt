@@ -49,7 +49,8 @@ fn compare<S: Sheet>(row: S::Row, sheet: &S) -> Result<Heard, Refusal>
 }
 
 // Hears a sheet message: its sender may send it, nothing else is recorded; it is recorded, and the steps of its slot
-// are taken. The parts of the message are parameters: a struct of them would be taken apart at once.
+// are taken. The parts of the message are parameters: a struct of them would be taken apart at once; and
+// the tables, as in all calls.
 pub fn hear_sheet<S: Sheet>(
     records: &mut [Slot],
     places: &mut [S::Row],

@@ -5,7 +5,7 @@ use sheets::kinds::{Takings, TakingsRow};
 use slots::slot::Slot;
 use std::test::Fail;
 
-// The number of the refusal of an opening, if it is refused.
+// The number of the refusal of an opening, if it is refused: the number that users see is what the tests pin.
 fn open_number(
     n: u8,
     own: u8,

@@ -137,7 +137,7 @@ impl Hall {
         n * n * (2 * n + 1) + 1
     }
 
-    // The tills that have offered hear each other, until a sweep brings nothing new.
+    // The tills that have offered hear each other, until a sweep brings nothing new. A loop for its effect, as those above.
     pub fn rest(&mut self) -> Rested {
         let mut rested = Rested {
             sweeps: 0,

@@ -52,13 +52,8 @@ impl Line<'_> {
 
     // Says what a till made of a faulty one's message.
     fn say_heard(self, forgery: Forgery, heard: Result<Heard, Fault>) -> anyhow::Result<()> {
-        let Forgery {
-            from,
-            to,
-            phase,
-            slot,
-            ..
-        } = forgery;
+        let Forgery { from, to, slot, .. } = forgery;
+        let phase = forgery.phase;
         let rt = self.rt;
         match heard {
             Ok(Heard::New) => println!(rt; "till {to} hears {phase} {slot} from till {from}: new")?,

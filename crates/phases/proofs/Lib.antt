@@ -1,3 +1,4 @@
 -- Lemmas on the two supplied rules.
 pub mod Masks
 pub mod Ending
+pub mod Nothing

@@ -6,3 +6,4 @@ pub mod Keeping
 pub mod Unions
 pub mod Turns
 pub mod Adding
+pub mod Elsewhere

@@ -10,10 +10,7 @@ use std::test::Fail;
 
 // Replica 0 of four.
 fn first_of_four() -> Result<Member, Fail> {
-    match Member::new(4, 0) {
-        Ok(member) => Ok(member),
-        Err(_) => Err(Fail::new("no member")),
-    }
+    Ok(Member::new(4, 0)?)
 }
 
 // Hears a vote for 1 under a tag from replicas 1 and 2.

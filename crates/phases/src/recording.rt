@@ -3,6 +3,7 @@ ghost use Rattle.std.specs.Prelude.{◌≡◌, ℕ, ◌<◌};
 ghost use Rattle.messages.specs.Tags.{bits_number};
 ghost use Rattle.rules.specs.Rounds.{voted};
 ghost use Rattle.phases.specs.Records.{under, meaning_of};
+ghost use Rattle.phases.specs.Elsewhere.{NothingElsewhere};
 ghost use Rattle.phases.specs.Phases.{tag_of};
 ghost use Rattle.phases.specs.Steps.{says};
 
@@ -24,10 +25,11 @@ impl PhasedRound {
         }
     }
 
-    // The votes under a tag; under another tag than a phase's there are none.
-    #[tactic(auto, using(crate::proofs::Masks::none_under))]
+    // The votes under a tag; under another tag than a phase's there are none, and nothing comes of them.
+    #[tactic(auto, using(crate::proofs::Masks::none_under, crate::proofs::Nothing::nothing_elsewhere))]
     pub fn votes_under(&self, tag: u8) -> Votes
-        ensures { result ≡ under self.now tag }
+        ensures value { result ≡ under self.now tag }
+        ensures others { NothingElsewhere }
     {
         match VotePhase::try_from(tag) {
             Ok(phase) => self.votes_in(phase),

@@ -55,7 +55,7 @@ fn deliver<S: Sheet>(records: &mut [Slot], sheets: &SlotSheets<'_, S>)
 }
 
 // Takes the steps of a slot while one applies: each once, in their order, since none lets an earlier one apply.
-// It takes n and own, and no Member: a listed n would ask more of callers.
+// It takes n and own, and no Member: a listed n would ask more of callers. The tables are parameters, as at `say_due`.
 pub fn settle<S: Sheet>(records: &mut [Slot], places: &mut [S::Row], n: u8, own: u8, slot: u8)
     requires low { slot < n }
     requires below { own < n }

@@ -8,6 +8,7 @@ use std::test::Fail;
 fn takings_in_range(rt: HostRuntime) -> Result<(), Fail> {
     assert!(rt; Takings::new(1_000_000_000_000, 7).is_ok());
     assert!(rt; Takings::new(-1_000_000_000_000, 7).is_ok());
+    // the number and place that users see are pinned
     let refusals = [1_000_000_000_001, -1_000_000_000_001, i64::MAX, i64::MIN];
     for cents in refusals {
         let refusal = Takings::new(cents, 0).err();
