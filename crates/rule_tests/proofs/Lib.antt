@@ -1,0 +1,2 @@
+-- Lemmas on the one-shot rule's record.
+pub mod Masks
