@@ -56,6 +56,13 @@ fn is_hopeless(n: u8, met: u32, j: u8) -> bool
     met + u32::from(fault_limit(n)) <= u32::from(j)
 }
 
+// Whether so many shares that are met are enough, being 2f + 1.
+fn is_enough(n: u8, met: u32) -> bool
+    ensures { result ≡ (met == quorum n) }
+{
+    met == quorum_size(n)
+}
+
 // The low bit of the value at 0 of a polynomial modulo 251, of degree at most f, that meets 2f + 1 held shares of the
 // replicas below n; none where there is no such polynomial. The search tries every choice of f + 1 held shares of the
 // first 2f + 1 replicas: at most f of those are missed by the polynomial that is looked for.
@@ -81,7 +88,7 @@ pub fn shown_bit(n: u8, held: ReplicaSet, shares: &[u8; 16]) -> Option<bool>
         for (j, share) in shares[..usize::from(n)].iter().enumerate() {
             if polynomial.meets_share(held, *share, j as u8) {
                 met += 1;
-                if met == enough {
+                if is_enough(n, met) {
                     shown = Some(polynomial.bit_at_zero());
                     break 'choices;
                 }
