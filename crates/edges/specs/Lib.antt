@@ -1,0 +1,2 @@
+-- What the edges of the share coin are stated by.
+pub mod Tosses

@@ -1,10 +1,7 @@
--- The search, computed.
-use Rattle.std.proofs.Common.{refl, ◌∙◌}
-use Rattle.basis.specs.Counts.{has, count}
-use Rattle.polynomials.specs.Polynomials.{inv, plus, times, newton, slope, through}
-use Rattle.polynomials.specs.Shares.{first_of, shown_of}
+-- What three held shares show.
+use Rattle.std.proofs.Common.{Ok, ap, ◌∙◌}
+use Rattle.edges.proofs.Tossing.{three_show_none}
 use Rattle.edges.proofs.coin_edges.one_wrong_of_three.Goals as goal
 
 pub returns : goal.returns
-unfolding has count inv plus times newton slope through first_of shown_of
-returns c = c.shown_bit.ensures.value ∙ refl
+returns c = ap Ok (c.first_bit.ensures ∙ three_show_none c.in_ok-coin.coin c.take_share.new.coin c.take_share-2.new.coin c.in_ok-coin.ensures.coin c.take_share.ensures c.take_share-2.ensures)

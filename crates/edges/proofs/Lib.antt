@@ -1,0 +1,2 @@
+-- Lemmas on the edges of the share coin.
+pub mod Tossing
