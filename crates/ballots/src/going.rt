@@ -2,7 +2,8 @@
 ghost use Rattle.std.specs.Prelude.{◌≡◌, ℕ, suc, ◌+◌, ◌*◌, ◌<◌, ◌≤◌, map, length};
 ghost use Rattle.rules.specs.Rounds.{cleared, bit_if_any, set_if_any};
 ghost use Rattle.ballots.specs.States.{place, ballot_meaning};
-ghost use Rattle.ballots.specs.Ballots.{gone_ballot, gone_rounds, opened_ballot, opened_rounds, round_settled, ballot_settled};
+ghost use Rattle.ballots.specs.Ballots.{gone_ballot, gone_rounds, opened_ballot, opened_rounds, round_settled};
+ghost use Rattle.ballots.specs.Listed.{ballot_taken, ListedOrder};
 
 use crate::ballot::{Ballot, Event};
 use crate::later_round::LaterRound;
@@ -73,17 +74,21 @@ pub fn settle_opening<R: Rule>(
     go_on::<R>(ballot, rounds, member, slot, 0, verdict, Some(true));
 }
 
-// All rounds of a ballot, the lowest first.
+// The steps of a ballot, all that apply: proposing again where the slot is delivered, the opening round, and the later
+// rounds, the lowest first. That is another order than the listed one, and comes to the same.
 pub fn settle_ballot<R: Rule, C: Coin>(
     ballot: &mut Ballot,
     rounds: &mut [R::Record],
     coin: &mut C,
     member: Member,
     slot: u8,
+    delivered: bool,
 )
     requires { (slot < 16) × (15 * slot + 15 ≤ length rounds.old) }
-    ensures { record { ballot = ballot_meaning ballot.exit.now; rounds = map R.Rule.meaning rounds.new; coin = coin.new } ≡ ballot_settled R.Rule.acts C.Coin.acts member.n member.own slot (record { ballot = ballot_meaning ballot.entry.now; rounds = map R.Rule.meaning rounds.old; coin = coin.old }) }
+    ensures taken { record { ballot = ballot_meaning ballot.exit.now; rounds = map R.Rule.meaning rounds.new; coin = coin.new } ≡ ballot_taken R.Rule.acts C.Coin.acts member.n member.own slot delivered (record { ballot = ballot_meaning ballot.entry.now; rounds = map R.Rule.meaning rounds.old; coin = coin.old }) }
+    ensures order { ListedOrder R.Rule.acts C.Coin.acts }
 {
+    ballot.repropose(member, delivered);
     settle_opening::<R>(ballot, rounds, member, slot);
     for later in 0..LATER {
         settle_round::<R, C>(ballot, rounds, coin, member, LaterRound { slot, later });

@@ -1,14 +1,16 @@
 // How a ballot's record changes, by its state and the event.
 ghost use Rattle.std.specs.Prelude.{◌≡◌, ℕ, suc, ◌==◌};
+ghost use Rattle.basis.specs.Steps.{taking};
 ghost use Rattle.messages.specs.Tags.{bits_number};
 ghost use Rattle.rules.specs.Rounds.{bit_set, bit_if_any};
 ghost use Rattle.ballots.specs.States.{stage_of, ballot_meaning, unopened};
-ghost use Rattle.ballots.specs.Ballots.{next_bit, decision, reacted, enters_with};
+ghost use Rattle.ballots.specs.Ballots.{next_bit, decision, with_opening, reacted, enters_with};
+ghost use Rattle.ballots.specs.Listed.{repropose};
 
 use crate::ballot::{Ballot, Event, Stage};
 use basis::member::Member;
 use messages::message::BitSet;
-use openings::proposing::propose;
+use openings::proposing::{propose, propose_again};
 use openings::steps::take_opening_steps;
 use phases::round::PhasedRound;
 
@@ -44,6 +46,15 @@ impl Ballot {
             opening: PhasedRound::default(),
             stage: Stage::InRound(0),
             decided: None,
+        }
+    }
+
+    // Proposes 1 again where the slot is delivered: the first vote 1 is said, unless it is.
+    pub fn repropose(&mut self, member: Member, delivered: bool)
+        ensures { ballot_meaning self.new ≡ with_opening (taking (repropose member.own delivered) (ballot_meaning self.old).opening) (ballot_meaning self.old) }
+    {
+        if delivered {
+            propose_again(&mut self.opening, member);
         }
     }
 

@@ -20,11 +20,11 @@ use Rattle.basis.specs.declared.heard.Heard.TheVariants.{New, Known}
 use Rattle.broadcast.specs.Claims.{RowLaws}
 use Rattle.broadcast.proofs.Tables.{other_not, same_bytes, bytes_same}
 
-compared_new : (o : Option (List ℕ)) (s : List ℕ) → compared o s ≡ Ok New → o ≡ None
+pub compared_new : (o : Option (List ℕ)) (s : List ℕ) → compared o s ≡ Ok New → o ≡ None
 compared_new None s e = refl
 compared_new (Some r) s e = absurd (let p = passed (bytes_eq r s) (Ok Known) (record { number = 13; place = 4 }) New e in let q = p.1 in let z : ◌≡◌ {A = ℕ} 0 1 = cc in omega arith)
 
-compared_known : (o : Option (List ℕ)) (s : List ℕ) → compared o s ≡ Ok Known → o ≡ Some s
+pub compared_known : (o : Option (List ℕ)) (s : List ℕ) → compared o s ≡ Ok Known → o ≡ Some s
 compared_known None s e = absurd (let z : ◌≡◌ {A = ℕ} 0 1 = cc in omega arith)
 compared_known (Some r) s e = ap Some (same_bytes r s (passed (bytes_eq r s) (Ok Known) (record { number = 13; place = 4 }) Known e).0)
 

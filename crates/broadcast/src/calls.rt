@@ -38,7 +38,7 @@ pub fn may_come(phase: Phase, slot: u8, sender: u8) -> bool
 }
 
 // What hearing a sheet comes to, by what the row of its sender holds: nothing, the same, or another.
-fn compare<S: Sheet>(row: S::Row, sheet: &S) -> Result<Heard, Refusal>
+pub fn compare<S: Sheet>(row: S::Row, sheet: &S) -> Result<Heard, Refusal>
     ensures { told result ≡ compared (S.Sheet.rows.held row) (S.Sheet.bytes sheet.now) }
 {
     match S::from_row(row) {

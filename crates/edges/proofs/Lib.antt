@@ -1,2 +1,3 @@
 -- Lemmas on the edges of the share coin.
+pub mod Deciding
 pub mod Tossing

@@ -1,2 +1,3 @@
--- What the edges of the share coin are stated by.
+-- What the edges of the share coin and of ballots are stated by.
+pub mod Openings
 pub mod Tosses

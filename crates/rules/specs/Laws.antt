@@ -34,6 +34,10 @@ pub record Audible (tags : VoteTags) (n own : ℕ) (w : Vote) : Type 0 where
   pub few : w.set < 4
   pub one : w.tag < 34 → w.set < 3
 
+-- what hearing a vote leaves: only a new one changes anything
+abbrev pub heard : Acts → ℕ → ℕ → Vote → Round → Round
+heard a n own w m = cond (is_new w m) (a.hear n own w m) m
+
 -- what may be done to a round
 pub data Deed : Type 0 where
   entering : ℕ → Deed

@@ -2,7 +2,7 @@
 ghost use Rattle.std.specs.Prelude.{◌≡◌, ℕ};
 ghost use Rattle.basis.specs.Refusals.{numbered};
 ghost use Rattle.rules.specs.Rounds.{Round, cleared, vote_of, bit_set, set_if_any, recorded, hear_answer};
-ghost use Rattle.rules.specs.Laws.{Acts, Audible, Keeps};
+ghost use Rattle.rules.specs.Laws.{Acts, Audible, heard, Keeps};
 
 use crate::cast_vote::CastVote;
 use basis::heard::Heard;
@@ -32,11 +32,11 @@ pub trait Rule {
     fn enter(row: &mut Self::Record, member: Member, bit: bool)
         ensures { meaning row.new ≡ acts.enter member.n member.own (bit_set bit) (meaning row.old) };
 
-    // Hears a vote of another replica: it is new, or known, or contradicts a recorded one.
+    // Hears a vote of another replica: it is new, or known, or contradicts a recorded one. Only a new one changes anything.
     fn hear(row: &mut Self::Record, member: Member, vote: CastVote) -> Result<Heard, Reason>
         requires { Audible acts.tags member.n member.own (vote_of vote) }
         ensures answer { numbered result ≡ hear_answer (vote_of vote) (meaning row.old) }
-        ensures left { meaning row.new ≡ acts.hear member.n member.own (vote_of vote) (meaning row.old) };
+        ensures left { meaning row.new ≡ heard acts member.n member.own (vote_of vote) (meaning row.old) };
 
     // Takes all steps that apply.
     fn take_steps(row: &mut Self::Record, member: Member)

@@ -1,11 +1,12 @@
 -- Each step of a slot once, in their order: that is all the steps which apply, and after them none does. Assumes nothing.
-use Rattle.std.proofs.Common.{◌≡◌, ℕ, zero, suc, ◌<◌, ◌≤◌, ◌≢◌, List, length, Some, None, Option, slice_index_or, sym, refl, ap, ◌∙◌, ap₂, get_or-set_same, get_or-set_other, length-set, arith}
+use Rattle.std.proofs.Common.{◌≡◌, ℕ, zero, suc, ◌<◌, ◌≤◌, ◌≢◌, List, length, Some, None, Option, slice_index_or, slice_set, sym, refl, ap, ◌∙◌, ap₂, get_or-set_same, get_or-set_other, length-set, arith}
 use Rattle.std.specs.Option.{option_map}
+use Rattle.std.proofs.lemmas.List.{set-get_or}
 use Rattle.messages.specs.declared.message.Phase.{Phase}
 use Rattle.messages.specs.declared.message.Phase.TheVariants.{Send, Echo, Ready}
 use Rattle.sheets.specs.Holds.{Rows}
 use Rattle.slots.specs.Places.{all_places, place, or_else, recorded, leader, to_ready}
-use Rattle.slots.specs.Steps.{Slots, cleared, unless, marked, noted, said_due, echo_due, ready_due, delivery_due, delivered_by, next, go_on, settled}
+use Rattle.slots.specs.Steps.{Slots, cleared, unless, marked_slot, marked, noted, said_due, echo_due, ready_due, delivery_due, delivered_by, next, go_on, settled, SettledIn}
 use Rattle.slots.specs.declared.slot.Slot.{Slot}
 use Rattle.basis.specs.Halls.{quorum}
 use Rattle.slots.proofs.Positions.{place_within}
@@ -85,18 +86,26 @@ module _ {R : Type 0} (rows : Rows R) (n own k : ℕ) where
   held_of bytes law None None = tt
   held_of bytes law None (Some x) = law x
 
+  -- a slot's record put back with its delivery, and without one
+  marked_in : (rs : List Slot) (r : Slot) (d : Option ℕ) → slice_index_or rs k cleared ≡ r → slice_set rs k (marked_slot r d) ≡ marked k rs d
+  marked_in rs r None e = ap (slice_set rs k) (sym e) ∙ set-get_or rs k cleared
+  marked_in rs r (Some j) e = refl
+
   -- what the three steps leave, each by its contract; e and r are the causes of an echo and of a ready
   pub settles : {S : Type 0} (bytes : S → List ℕ) → ((x : S) → rows.held (rows.row (bytes x)) ≡ Some (bytes x)) → k < n → own < n
-      → (rs rs' : List Slot) (ps p1 p2 : List R) (e r : Option S) → n ≤ length rs → all_places n ≤ length ps
+      → (t t' : Slot) (ps p1 p2 : List R) (e r : Option S) → all_places n ≤ length ps
       → option_map bytes e ≡ recorded rows n ps Send k own → p1 ≡ said_due rows n own k Echo ps (unless (recorded rows n ps Echo k own) (option_map bytes e))
       → option_map bytes r ≡ to_ready rows n p1 k → p2 ≡ said_due rows n own k Ready p1 (unless (recorded rows n p1 Ready k own) (option_map bytes r))
-      → rs' ≡ marked k rs (unless (slice_index_or rs k cleared).delivered (leader rows n p2 Ready k (quorum n) n))
-      → record { records = rs'; places = p2 } ≡ settled rows n own k 3 (record { records = rs; places = ps })
-  settles bytes law lk lo rs rs' ps p1 p2 e r l fit qe q1 qr q2 q3 =
+      → t' ≡ marked_slot t (unless t.delivered (leader rows n p2 Ready k (quorum n) n))
+      → SettledIn rows n own k t t' ps p2
+  settles bytes law lk lo t t' ps p1 p2 e r fit qe q1 qr q2 q3 rs l at =
       let due = unless (recorded rows n ps Echo k own) (option_map bytes e) in
       let p1' = said_due rows n own k Echo ps due in
       let due' = unless (recorded rows n p1' Ready k own) (option_map bytes r) in
       let said : p2 ≡ said_due rows n own k Ready p1' due' = q2 ∙ ap (λ p. said_due rows n own k Ready p (unless (recorded rows n p Ready k own) (option_map bytes r))) q1 in
-      ap (λ x. both x p2) q3 ∙ ap (done rs) said
-      ∙ all_steps 0 rs ps due due' (omega arith) lk lo fit (ap (unless (recorded rows n ps Echo k own)) qe) (held_of bytes law (recorded rows n ps Echo k own) e)
+      let put : slice_set rs k t' ≡ marked k rs (delivery_due rows n own k (both rs p2)) =
+      ap (slice_set rs k) q3 ∙ marked_in rs t (unless t.delivered (leader rows n p2 Ready k (quorum n) n)) at
+      ∙ ap (λ (s : Slot). marked k rs (unless s.delivered (leader rows n p2 Ready k (quorum n) n))) (sym at) in
+      ap (λ x. both x p2) put ∙ ap (done rs) said
+      ∙ all_steps 0 rs ps due due' l lk lo fit (ap (unless (recorded rows n ps Echo k own)) qe) (held_of bytes law (recorded rows n ps Echo k own) e)
       (ap (unless (recorded rows n p1' Ready k own)) (qr ∙ ap (λ p. to_ready rows n p k) q1)) (held_of bytes law (recorded rows n p1' Ready k own) r)

@@ -1,5 +1,5 @@
 -- The steps of a slot: when each applies and what it changes. Assumes nothing.
-use Rattle.std.specs.Prelude.{ℕ, zero, suc, List, Some, None, Option, slice_index_or, slice_set}
+use Rattle.std.specs.Prelude.{◌≡◌, ℕ, zero, suc, ◌<◌, List, length, Some, None, Option, slice_index_or, slice_set}
 use Rattle.std.specs.Option.{option_map}
 use Rattle.basis.specs.Halls.{quorum}
 use Rattle.messages.specs.declared.message.Phase.{Phase}
@@ -21,6 +21,11 @@ cleared = record { delivered = None }
 abbrev pub unless : {X Y : Type 0} → Option X → Option Y → Option Y
 unless None y = y
 unless (Some x) y = None
+
+-- a slot's record with its delivery, if there is one
+abbrev pub marked_slot : Slot → Option ℕ → Slot
+marked_slot r None = r
+marked_slot r (Some j) = record { delivered = Some j }
 
 -- the records with a slot's delivery, if there is one
 abbrev pub marked : ℕ → List Slot → Option ℕ → List Slot
@@ -75,3 +80,7 @@ module _ {R : Type 0} (rows : Rows R) (n own k : ℕ) where
   -- the sheet delivered for the slot
   abbrev pub delivered_sheet_lem : Slots R → Option (List ℕ)
   delivered_sheet_lem t = sheet_of rows n t.places Ready k (slice_index_or t.records k cleared).delivered
+
+  -- the record and the places that the steps leave, in whatever table of records the slot's record stands
+  abbrev pub SettledIn : Slot → Slot → List R → List R → Type 0
+  SettledIn r r' ps ps' = (rs : List Slot) → k < length rs → slice_index_or rs k cleared ≡ r → record { records = slice_set rs k r'; places = ps' } ≡ settled 3 (record { records = rs; places = ps })

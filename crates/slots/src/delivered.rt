@@ -2,12 +2,22 @@
 ghost use Rattle.std.specs.Prelude.{◌≡◌, ◌<◌, ◌≤◌, length, is_some, slice_index_or};
 ghost use Rattle.std.specs.Option.{option_map};
 ghost use Rattle.basis.specs.Counts.{count};
+ghost use Rattle.messages.specs.declared.message.Phase.TheVariants.{Ready};
+ghost use Rattle.slots.specs.Places.{sheet_of};
 ghost use Rattle.slots.specs.Steps.{cleared, delivered_sheet_lem};
 
 use crate::places::place_of;
 use crate::slot::Slot;
 use messages::message::Phase;
 use sheets::sheet::Sheet;
+
+// The sheet that a slot's record says is delivered, if any.
+pub fn sheet_of_slot<S: Sheet>(row: Slot, places: &[S::Row], n: u8, slot: u8) -> Option<S>
+    ensures { option_map S.Sheet.bytes result ≡ sheet_of S.Sheet.rows n places.now Ready slot row.delivered }
+{
+    let place = places.get(place_of(n, Phase::Ready, slot, row.delivered?))?;
+    S::from_row(*place)
+}
 
 // The sheet that is delivered for a slot, if any.
 // It takes n and own, and no Member: a listed n would ask more of callers.
@@ -20,9 +30,7 @@ pub fn delivered_sheet<S: Sheet>(
 ) -> Option<S>
     ensures { option_map S.Sheet.bytes result ≡ delivered_sheet_lem S.Sheet.rows n own slot (record { records = records.entry.now; places = places.now }) }
 {
-    let sender = records.get(usize::from(slot))?.delivered?;
-    let row = places.get(place_of(n, Phase::Ready, slot, sender))?;
-    S::from_row(*row)
+    sheet_of_slot(*records.get(usize::from(slot))?, places, n, slot)
 }
 
 // Whether a slot is delivered.

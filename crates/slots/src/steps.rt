@@ -1,10 +1,10 @@
 // The steps of a slot: echo, ready, deliver, each once if it applies.
-ghost use Rattle.std.specs.Prelude.{◌≡◌, ◌<◌, ◌≤◌, length, slice_index_or};
+ghost use Rattle.std.specs.Prelude.{◌≡◌, ◌<◌, ◌≤◌, length};
 ghost use Rattle.std.specs.Option.{option_map};
 ghost use Rattle.basis.specs.Halls.{quorum};
 ghost use Rattle.messages.specs.declared.message.Phase.TheVariants.{Ready};
 ghost use Rattle.slots.specs.Places.{all_places, recorded, leader, to_ready};
-ghost use Rattle.slots.specs.Steps.{cleared, unless, said_due, marked, settled};
+ghost use Rattle.slots.specs.Steps.{unless, said_due, marked_slot, settled, SettledIn};
 
 use crate::places::{SlotSheets, place_of, sheet_from};
 use crate::slot::Slot;
@@ -40,28 +40,26 @@ fn sheet_to_ready<S: Sheet>(sheets: &SlotSheets<'_, S>) -> Option<S>
 }
 
 // Marks the slot as delivered, if 2f + 1 are ready of one sheet and it is not delivered yet.
-fn deliver<S: Sheet>(records: &mut [Slot], sheets: &SlotSheets<'_, S>)
-    requires { sheets.now.n ≤ length records.old }
-    ensures { records.exit.now ≡ marked sheets.now.slot records.entry.now (unless (slice_index_or records.entry.now sheets.now.slot cleared).delivered (leader S.Sheet.rows sheets.now.n sheets.now.places.now Ready sheets.now.slot (quorum sheets.now.n) sheets.now.n)) }
+fn deliver<S: Sheet>(row: &mut Slot, sheets: &SlotSheets<'_, S>)
+    ensures { row.new ≡ marked_slot row.old (unless row.old.delivered (leader S.Sheet.rows sheets.now.n sheets.now.places.now Ready sheets.now.slot (quorum sheets.now.n) sheets.now.n)) }
 {
-    let at = usize::from(sheets.slot);
-    if records[at].delivered.is_some() {
+    if row.delivered.is_some() {
         return;
     }
     let leading = sheets.leading_sender(Phase::Ready, quorum_size(sheets.n));
     if leading.is_some() {
-        records[at] = Slot { delivered: leading };
+        *row = Slot { delivered: leading };
     }
 }
 
 // Takes the steps of a slot while one applies: each once, in their order, since none lets an earlier one apply.
-// It takes n and own, and no Member: a listed n would ask more of callers. The tables are parameters, as at `say_due`.
-pub fn settle<S: Sheet>(records: &mut [Slot], places: &mut [S::Row], n: u8, own: u8, slot: u8)
+// The slot's record is lent alone, in whatever table it stands. n and own are no Member: a listed n would ask more of
+// callers. The places are a parameter, as at `say_due`.
+pub fn settle_slot<S: Sheet>(row: &mut Slot, places: &mut [S::Row], n: u8, own: u8, slot: u8)
     requires low { slot < n }
     requires below { own < n }
-    requires each { n ≤ length records.old }
     requires enough { all_places n ≤ length places.old }
-    ensures { record { records = records.exit.now; places = places.new } ≡ settled S.Sheet.rows n own slot 3 (record { records = records.entry.now; places = places.old }) }
+    ensures { SettledIn S.Sheet.rows n own slot row.old row.new places.old places.new }
 {
     let send = sheet_from::<S>(places, n, Phase::Send, slot, own);
     say_due(places, n, own, Phase::Echo, slot, send);
@@ -77,5 +75,16 @@ pub fn settle<S: Sheet>(records: &mut [Slot], places: &mut [S::Row], n: u8, own:
         slot,
         places: &*places,
     };
-    deliver(records, &sheets);
+    deliver(row, &sheets);
+}
+
+// The same for a slot's record in a table of them.
+pub fn settle<S: Sheet>(records: &mut [Slot], places: &mut [S::Row], n: u8, own: u8, slot: u8)
+    requires low { slot < n }
+    requires below { own < n }
+    requires each { n ≤ length records.old }
+    requires enough { all_places n ≤ length places.old }
+    ensures { record { records = records.exit.now; places = places.new } ≡ settled S.Sheet.rows n own slot 3 (record { records = records.entry.now; places = places.old }) }
+{
+    settle_slot::<S>(&mut records[usize::from(slot)], places, n, own, slot);
 }

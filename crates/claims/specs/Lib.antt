@@ -1,0 +1,1 @@
+-- There are no definitions of its own here: what is claimed stands in evenings.

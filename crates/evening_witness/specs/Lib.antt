@@ -1,0 +1,2 @@
+-- An evening that closes.
+pub mod Witness

@@ -1,0 +1,2 @@
+-- The definitions that the contracts of a hall cite.
+pub mod Actives

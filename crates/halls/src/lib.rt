@@ -1,0 +1,9 @@
+// A hall of tills at play: its tills offer, hear each other and close, and what a script's lines print.
+#![tactic(auto)]
+
+pub mod hall;
+pub mod packet;
+pub mod player;
+pub mod report;
+pub mod state;
+pub mod till;

@@ -1,0 +1,202 @@
+// One till of a hall: its replica, in its state, with the tables and the coin that the till lends it.
+use crate::state::{Active, State};
+use ballots::ballot::Ballot;
+use basis::heard::Heard;
+use basis::refusal::Refusal;
+use broadcast::calls::ROUNDS;
+use coins::dealt::DealtCoin;
+use outcomes::opening_record::OpeningRecord;
+use phases::phased::{ThreePhase, TwoPhase};
+use phases::round::PhasedRound;
+use replica::offered::Offered;
+use replica::states::Fresh;
+use scripts::command::RuleName;
+use sheets::kinds::{Takings, TakingsRow};
+use sheets::sheet::Sheet;
+use slots::places::places_in;
+use slots::slot::Slot;
+use std::alloc::{AllocError, AllocFailed, Global};
+use std::mem::replace;
+
+// Why a till does not do what a line asks.
+#[derive(Drop)]
+pub enum Fault {
+    // the line does not fit the hall or the till's state
+    Misplaced,
+    // the replica refuses
+    Refused(Refusal),
+    // memory ran out
+    Memory,
+}
+
+impl From<Refusal> for Fault {
+    fn from(refusal: Refusal) -> Fault {
+        Fault::Refused(refusal)
+    }
+}
+
+impl From<AllocError> for Fault {
+    fn from(_e: AllocError) -> Fault {
+        Fault::Memory
+    }
+}
+
+impl<T: Drop> From<AllocFailed<T>> for Fault {
+    fn from(_e: AllocFailed<T>) -> Fault {
+        Fault::Memory
+    }
+}
+
+#[derive(Drop)]
+pub struct Till {
+    state: State,
+    records: Vec<OpeningRecord>,
+    rounds: Vec<PhasedRound>,
+    places: Vec<TakingsRow>,
+    coin: DealtCoin,
+}
+
+fn vacant_record() -> OpeningRecord {
+    OpeningRecord {
+        slot: Slot { delivered: None },
+        ballot: Ballot::unopened(),
+    }
+}
+
+impl Till {
+    // Opens till `number` of a hall of n, with tables and a coin of its own.
+    pub fn open(heap: Global, n: u8, number: u8, coin: u16) -> Result<Till, Fault> {
+        let size = usize::from(n);
+        let mut records = vec![in heap; vacant_record(); size]?;
+        let mut rounds = vec![in heap; PhasedRound::default(); ROUNDS * size]?;
+        let mut places = vec![in heap; Takings::empty_row(); places_in(n)]?;
+        let fresh = Fresh::open::<Takings, TwoPhase>(
+            n,
+            number,
+            records.as_mut_slice(),
+            rounds.as_mut_slice(),
+            places.as_mut_slice(),
+        )?;
+        Ok(Till {
+            state: State::Fresh(fresh),
+            records,
+            rounds,
+            places,
+            coin: DealtCoin::same(coin),
+        })
+    }
+
+    pub fn has_offered(&self) -> bool {
+        matches!(self.state, State::Active(_))
+    }
+
+    // Offers takings, where the till has not offered yet. A refused offer leaves it as it was.
+    pub fn offer(&mut self, rule: RuleName, sheet: &Takings) -> Result<(), Fault> {
+        if self.has_offered() {
+            return Err(Fault::Misplaced);
+        }
+        let State::Fresh(fresh) = replace(&mut self.state, State::Gone) else {
+            return Err(Fault::Misplaced);
+        };
+        let records = self.records.as_mut_slice();
+        let rounds = self.rounds.as_mut_slice();
+        let places = self.places.as_mut_slice();
+        let coin = &mut self.coin;
+        let offered = match rule {
+            RuleName::Two => {
+                fresh.offer::<Takings, TwoPhase, DealtCoin>(sheet, records, rounds, places, coin)
+            }
+            RuleName::Three => {
+                fresh.offer::<Takings, ThreePhase, DealtCoin>(sheet, records, rounds, places, coin)
+            }
+        };
+        match offered {
+            Ok(running) => {
+                self.state = State::Active(Active::Running(running));
+                Ok(())
+            }
+            Err((fresh, refusal)) => {
+                self.state = State::Fresh(fresh);
+                Err(Fault::Refused(refusal))
+            }
+        }
+    }
+
+    // Hears a packet from a sender, if the till has offered.
+    pub fn hear(&mut self, rule: RuleName, sender: u8, packet: &[u8]) -> Result<Heard, Fault> {
+        let State::Active(active) = &self.state else {
+            return Err(Fault::Misplaced);
+        };
+        let records = self.records.as_mut_slice();
+        let rounds = self.rounds.as_mut_slice();
+        let places = self.places.as_mut_slice();
+        let coin = &mut self.coin;
+        let heard = match rule {
+            RuleName::Two => active.hear::<Takings, TwoPhase, DealtCoin>(
+                sender, packet, records, rounds, places, coin,
+            ),
+            RuleName::Three => active.hear::<Takings, ThreePhase, DealtCoin>(
+                sender, packet, records, rounds, places, coin,
+            ),
+        };
+        Ok(heard?)
+    }
+
+    // Writes the first message that the till has said at or after a position, and answers its position.
+    pub fn say(&self, rule: RuleName, from: u32, out: &mut [u8]) -> Result<Option<u32>, Fault> {
+        let State::Active(active) = &self.state else {
+            return Err(Fault::Misplaced);
+        };
+        let records = self.records.as_slice();
+        let rounds = self.rounds.as_slice();
+        let places = self.places.as_slice();
+        let coin = &self.coin;
+        let said = match rule {
+            RuleName::Two => {
+                active.say::<Takings, TwoPhase, DealtCoin>(from, out, records, rounds, places, coin)
+            }
+            RuleName::Three => {
+                active.say::<Takings, ThreePhase, DealtCoin>(
+                    from, out, records, rounds, places, coin,
+                )
+            }
+        };
+        Ok(said?)
+    }
+
+    // Closes the replica, where it runs.
+    pub fn close(&mut self) -> Result<(), Fault> {
+        match replace(&mut self.state, State::Gone) {
+            State::Active(Active::Running(running)) => {
+                let records = self.records.as_slice();
+                let rounds = self.rounds.as_slice();
+                let places = self.places.as_slice();
+                match running.close::<Takings, TwoPhase>(records, rounds, places) {
+                    Ok(closed) => {
+                        self.state = State::Active(Active::Closed(closed));
+                        Ok(())
+                    }
+                    Err((running, refusal)) => {
+                        self.state = State::Active(Active::Running(running));
+                        Err(Fault::Refused(refusal))
+                    }
+                }
+            }
+            other => {
+                self.state = other;
+                Err(Fault::Misplaced)
+            }
+        }
+    }
+
+    // Writes the closing record of a closed till and answers its length.
+    pub fn record(&self, out: &mut [u8]) -> Result<usize, Fault> {
+        let State::Active(Active::Closed(closed)) = &self.state else {
+            return Err(Fault::Misplaced);
+        };
+        let records = self.records.as_slice();
+        let rounds = self.rounds.as_slice();
+        let places = self.places.as_slice();
+        Ok(closed.record::<Takings, TwoPhase, DealtCoin>(out, records, rounds, places)?)
+    }
+}

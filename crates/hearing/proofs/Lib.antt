@@ -1,0 +1,4 @@
+-- Lemmas on hearing a packet.
+pub mod Votes
+pub mod Messages
+pub mod Packets

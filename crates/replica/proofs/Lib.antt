@@ -1,0 +1,1 @@
+-- Lemmas on the calls of a replica.

@@ -1,0 +1,2 @@
+-- What the users of a replica are told.
+pub mod Told

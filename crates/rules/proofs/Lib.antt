@@ -1,0 +1,2 @@
+-- Lemmas on every rule.
+pub mod News

@@ -1,0 +1,25 @@
+-- One tag more.
+use Rattle.std.proofs.Common.{◌+◌, refl}
+use Rattle.outcomes.specs.Holdings.{Running}
+use Rattle.outcomes.specs.Tables.{setting, holding}
+use Rattle.outcomes.specs.Saying.{first_of, first_if_used}
+use Rattle.saying.proofs.Firsts.{none_more, this_one}
+use Rattle.saying.proofs.view.SayingView.first_vote.Goals as goal
+
+pub loop-offset-init : goal.loop-offset-init
+unfolding first_of
+loop-offset-init g c = refl
+
+pub returns-in-Some : goal.returns-in-Some
+returns-in-Some g c =
+    let m = g.S.Sheet in
+    let s = c.args.self.now in
+    let h = holding g.R.Rule.meaning Running s.records.now s.rounds.now s.places.now s.coin.now in
+    this_one (λ i. first_if_used (setting m.rows m.LEN m.KIND m.lawful g.R.Rule.acts g.C.Coin.acts) s.member.n s.member.own h c.args.from (32 + i)) c.loop-offset.offset 16 _ c.loop-offset-test.true c.loop-offset.invariant c.in-Some.ensures
+
+pub loop-offset-preserved : goal.loop-offset-preserved
+loop-offset-preserved g c =
+    let m = g.S.Sheet in
+    let s = c.args.self.now in
+    let h = holding g.R.Rule.meaning Running s.records.now s.rounds.now s.places.now s.coin.now in
+    none_more (λ i. first_if_used (setting m.rows m.LEN m.KIND m.lawful g.R.Rule.acts g.C.Coin.acts) s.member.n s.member.own h c.args.from (32 + i)) c.loop-offset.offset c.loop-offset.invariant c.in_default.ensures

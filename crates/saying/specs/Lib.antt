@@ -1,0 +1,2 @@
+-- The definitions that the contracts of saying cite.
+pub mod SaysTheFirst

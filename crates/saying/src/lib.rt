@@ -1,0 +1,7 @@
+// Saying: the first message that a replica has said at or after a position.
+#![tactic(auto)]
+
+pub mod say;
+pub mod shares;
+pub mod view;
+pub mod votes;

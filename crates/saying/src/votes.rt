@@ -1,0 +1,111 @@
+// The votes that a replica has said.
+ghost use Rattle.std.specs.Prelude.{◌≡◌, ◌<◌, ◌≤◌, length};
+ghost use Rattle.std.specs.Option.{option_map};
+ghost use Rattle.messages.specs.Writing.{on_sheet};
+ghost use Rattle.outcomes.specs.Holdings.{Running, state_of};
+ghost use Rattle.outcomes.specs.Tables.{holding};
+ghost use Rattle.outcomes.specs.Saying.{vote_message, may_be_cast, is_vote_said, vote_from, first_value, first_in_ballot, first_under};
+
+use crate::view::SayingView;
+use coins::coin::Coin;
+use messages::message::{BitSet, Message, Vote};
+use rules::cast_vote::CastVote;
+use rules::rule::Rule;
+use sheets::sheet::Sheet;
+
+// How many rounds a ballot has.
+const ROUNDS: u8 = 16;
+
+// A vote's message: under 0x20 and 0x21 for one bit, else for a set.
+fn vote_message<S>(tag: u8, slot: u8, round: u8, bits: BitSet) -> Message<S>
+    ensures { result ≡ vote_message tag slot round bits }
+{
+    match tag {
+        0x00..=0x21 => Message::Bit {
+            vote: Vote::of(tag),
+            slot,
+            round,
+            bit: bits == BitSet::One,
+        },
+        _ => Message::Set {
+            tag,
+            slot,
+            round,
+            bits,
+        },
+    }
+}
+
+// Whether there is such a vote: for both bits under 0x20 and 0x21, and of a set in round 0, there is none.
+fn may_be_cast(tag: u8, round: u8, bits: BitSet) -> bool
+    ensures { result ≡ may_be_cast tag round bits }
+{
+    match tag {
+        0x00..=0x21 => bits != BitSet::Both,
+        _ => round >= 1,
+    }
+}
+
+impl<S: Sheet, R: Rule, C: Coin> SayingView<'_, S, R, C> {
+    // Whether a vote is said: recorded under the own number.
+    fn is_vote_said(&self, tag: u8, slot: u8, round: u8, bits: BitSet) -> bool
+        requires slot { slot < self.now.member.n }
+        requires round { round < 16 }
+        ensures { result ≡ is_vote_said self.now.member.own (holding R.Rule.meaning Running self.now.records.now self.now.rounds.now self.now.places.now self.now.coin.now) tag slot round bits }
+    {
+        let sender = self.member.own;
+        may_be_cast(tag, round, bits)
+            && self.has_recorded(slot, round, CastVote { tag, bits, sender })
+    }
+
+    // The vote, if it is said and stands at or after a position.
+    fn vote_from(&self, from: u32, tag: u8, slot: u8, round: u8, bits: BitSet) -> Option<Message<S>>
+        requires slot { slot < self.now.member.n }
+        requires round { round < 16 }
+        ensures { option_map (on_sheet S.Sheet.bytes) result ≡ vote_from self.now.member.own (holding R.Rule.meaning Running self.now.records.now self.now.rounds.now self.now.places.now self.now.coin.now) from tag slot round bits }
+    {
+        if !self.is_vote_said(tag, slot, round, bits) {
+            return None;
+        }
+        Some(vote_message(tag, slot, round, bits)).filter(|vote: &Message<S>| vote.position()
+            >= from)
+    }
+
+    // The first vote of a round.
+    fn first_value(&self, from: u32, tag: u8, slot: u8, round: u8) -> Option<Message<S>>
+        requires slot { slot < self.now.member.n }
+        requires round { round < 16 }
+        ensures { option_map (on_sheet S.Sheet.bytes) result ≡ first_value self.now.member.own (holding R.Rule.meaning Running self.now.records.now self.now.rounds.now self.now.places.now self.now.coin.now) from tag slot round }
+    {
+        let one = || self.vote_from(from, tag, slot, round, BitSet::One);
+        let both = || self.vote_from(from, tag, slot, round, BitSet::Both);
+        self.vote_from(from, tag, slot, round, BitSet::Zero)
+            .or_else(one)
+            .or_else(both)
+    }
+
+    // The first vote of a ballot.
+    fn first_in_ballot(&self, from: u32, tag: u8, slot: u8) -> Option<Message<S>>
+        requires { slot < self.now.member.n }
+        ensures { option_map (on_sheet S.Sheet.bytes) result ≡ first_in_ballot self.now.member.own (holding R.Rule.meaning Running self.now.records.now self.now.rounds.now self.now.places.now self.now.coin.now) from tag slot }
+    {
+        for round in 0..ROUNDS {
+            if let Some(vote) = self.first_value(from, tag, slot, round) {
+                return Some(vote);
+            }
+        }
+        None
+    }
+
+    // The first vote under a tag.
+    pub fn first_under(&self, from: u32, tag: u8) -> Option<Message<S>>
+        ensures { option_map (on_sheet S.Sheet.bytes) result ≡ first_under self.now.member.own (holding R.Rule.meaning Running self.now.records.now self.now.rounds.now self.now.places.now self.now.coin.now) from self.now.member.n tag }
+    {
+        for slot in 0..self.member.n {
+            if let Some(vote) = self.first_in_ballot(from, tag, slot) {
+                return Some(vote);
+            }
+        }
+        None
+    }
+}

@@ -1,0 +1,3 @@
+-- The definitions that the contracts cite. Assumes nothing.
+pub mod Commands
+pub mod Written

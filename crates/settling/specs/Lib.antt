@@ -1,0 +1,3 @@
+-- The definitions of taking the steps of slots.
+pub mod Proposing
+pub mod Turns
