@@ -1,5 +1,5 @@
 -- What ballot 0 of replica 0 of four comes to by a proposal and votes for 1. Assumes nothing.
-use Rattle.std.specs.Prelude.{◌≡◌, Bool, true, false, Option, None, Some, map, replicate, refl}
+use Rattle.std.specs.Prelude.{◌≡◌, Bool, true, false, Option, None, Some, replicate, refl}
 use Rattle.std.proofs.Common.{ap, ap₂, ◌∙◌, arith}
 use Rattle.basis.specs.Counts.{count}
 use Rattle.basis.specs.Steps.{settled}
@@ -9,12 +9,13 @@ use Rattle.phases.specs.declared.round.PhasedRound.{PhasedRound}
 use Rattle.phases.specs.Records.{meaning_of}
 use Rattle.phases.specs.Steps.{acts_of, says, begun, admitted, enough, union}
 use Rattle.openings.specs.Openings.{admits, ready_to_leave, tally}
-use Rattle.ballots.specs.States.{Opened, BallotState, unopened}
+use Rattle.ballots.specs.declared.ballot.Ballot.{Ballot}
+use Rattle.ballots.specs.States.{Opened, BallotState, ballot_meaning, unopened}
 use Rattle.ballots.specs.Ballots.{with_opening, ballot_settled, later_settled}
 use Rattle.ballots.specs.Listed.{reproposed}
 use Rattle.ballots.proofs.Order.{listed_order}
 use Rattle.edges.specs.declared.ballot_edges.Standing.{Standing}
-use Rattle.edges.specs.Openings.{taken, proposed, heard, seen_in, seen_of, Seen}
+use Rattle.edges.specs.Openings.{state_of, taken, proposed, heard, seen_in, seen_of, Seen}
 
 -- nothing is proposed
 abbrev pub start : {C : Type 0} → C → BallotState C
@@ -77,8 +78,8 @@ module _ {C : Type 0} (b : Coin-acts C) (c : C) where
   two_firsts false = refl
 
 -- a ballot that nobody proposed in, and cleared rounds
-pub fresh : {C : Type 0} (o : Opened) (r : PhasedRound) (c : C) → o ≡ unopened → meaning_of r ≡ cleared → record { ballot = o; rounds = map meaning_of (replicate 15 r); coin = c } ≡ start c
-fresh o r c e h = ap₂ (λ (p : Opened) (m : Round). record { ballot = p; rounds = replicate 15 m; coin = c }) e h
+pub fresh : {C : Type 0} (x : Ballot) (r : PhasedRound) (c : C) → ballot_meaning x ≡ unopened → meaning_of r ≡ cleared → state_of x (replicate 15 r) c ≡ start c
+fresh x r c e h = ap₂ (λ (p : Opened) (m : Round). record { ballot = p; rounds = replicate 15 m; coin = c }) e h
 
 -- what is told of an answer is all of it
 bit_back : (a b : Option Bool) → bit_if_any a ≡ bit_if_any b → a ≡ b

@@ -1,3 +1,3 @@
--- Lemmas on the edges of the share coin.
+-- Lemmas on the edges of the share coin and of ballots.
 pub mod Deciding
 pub mod Tossing

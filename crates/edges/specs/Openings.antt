@@ -1,13 +1,20 @@
 -- Ballot 0 of replica 0 of four in its opening round, under a supplied rule and any coin. Assumes nothing.
-use Rattle.std.specs.Prelude.{ℕ, Bool, false, List, slice_index_or}
+use Rattle.std.specs.Prelude.{ℕ, Bool, false, List, map, slice_index_or}
 use Rattle.rules.specs.Rounds.{Round, cleared, bit_if_any}
 use Rattle.coins.specs.Coins.{Acts as Coin-acts}
+use Rattle.phases.specs.declared.round.PhasedRound.{PhasedRound}
+use Rattle.phases.specs.Records.{meaning_of}
 use Rattle.phases.specs.Steps.{acts_of, hears}
-use Rattle.ballots.specs.States.{Opened, BallotState}
+use Rattle.ballots.specs.declared.ballot.Ballot.{Ballot}
+use Rattle.ballots.specs.States.{Opened, BallotState, ballot_meaning}
 use Rattle.ballots.specs.Ballots.{with_opening}
 use Rattle.ballots.specs.Listed.{ballot_taken}
 use Rattle.edges.specs.declared.ballot_edges.Standing.{Standing}
 use Rattle.openings.specs.Openings.{proposed as proposal_made}
+
+-- the state of a ballot by its records
+abbrev pub state_of : {C : Type 0} → Ballot → List PhasedRound → C → BallotState C
+state_of x rs c = record { ballot = ballot_meaning x; rounds = map meaning_of rs; coin = c }
 
 module _ {C : Type 0} (third : Bool) (b : Coin-acts C) where
   -- its steps are taken after a change of the opening round; its slot is not delivered

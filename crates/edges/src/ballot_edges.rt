@@ -1,11 +1,11 @@
 // Edges of the opening round: second votes after proposing 1, and first votes after proposing 0, under either supplied
 // rule and any coin.
-ghost use Rattle.std.specs.Prelude.{◌≡◌, ℕ, ◌<◌, ◌≤◌, true, false, length, map, replicate, Some, None};
-ghost use Rattle.ballots.specs.States.{BallotState, ballot_meaning, unopened};
+ghost use Rattle.std.specs.Prelude.{◌≡◌, ℕ, ◌<◌, ◌≤◌, true, false, length, map, Some, None};
+ghost use Rattle.ballots.specs.States.{ballot_meaning};
 ghost use Rattle.phases.specs.Phases.{tag_of};
 ghost use Rattle.phases.specs.Records.{meaning_of};
-ghost use Rattle.rules.specs.Rounds.{bit_set, bit_if_any, cleared};
-ghost use Rattle.edges.specs.Openings.{proposed, heard, seen, seen_of};
+ghost use Rattle.rules.specs.Rounds.{bit_set};
+ghost use Rattle.edges.specs.Openings.{state_of, proposed, heard, seen, seen_of};
 
 use ballots::ballot::{Ballot, Event};
 use ballots::going::settle_ballot;
@@ -35,7 +35,7 @@ fn propose<const THIRD: bool, C: Coin>(
     bit: bool,
 )
     requires { 15 ≤ length rounds.old }
-    ensures { record { ballot = ballot_meaning ballot.exit.now; rounds = map meaning_of rounds.new; coin = coin.new } ≡ proposed THIRD C.acts (bit_set bit) (record { ballot = ballot_meaning ballot.entry.now; rounds = map meaning_of rounds.old; coin = coin.old }) }
+    ensures { state_of ballot.exit.now rounds.new coin.new ≡ proposed THIRD C.acts (bit_set bit) (state_of ballot.entry.now rounds.old coin.old) }
 {
     let member = Member { n: 4, own: 0 };
     let _ = ballot.react(member, Event::Proposal(bit));
@@ -52,7 +52,7 @@ fn hear<const THIRD: bool, C: Coin>(
 )
     requires sender { sender < 16 }
     requires rounds { 15 ≤ length rounds.old }
-    ensures { record { ballot = ballot_meaning ballot.exit.now; rounds = map meaning_of rounds.new; coin = coin.new } ≡ heard THIRD C.acts (tag_of phase) sender (record { ballot = ballot_meaning ballot.entry.now; rounds = map meaning_of rounds.old; coin = coin.old }) }
+    ensures { state_of ballot.exit.now rounds.new coin.new ≡ heard THIRD C.acts (tag_of phase) sender (state_of ballot.entry.now rounds.old coin.old) }
 {
     let member = Member { n: 4, own: 0 };
     let vote = CastVote {

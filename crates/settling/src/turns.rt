@@ -2,6 +2,7 @@
 ghost use Rattle.std.specs.Prelude.{◌≡◌, ◌*◌, ◌<◌, ◌≤◌, length};
 ghost use Rattle.slots.specs.Places.{all_places};
 ghost use Rattle.outcomes.specs.Holdings.{Life};
+ghost use Rattle.outcomes.specs.SlotSteps.{SlotOrder};
 ghost use Rattle.outcomes.specs.Tables.{holding, setting};
 ghost use Rattle.outcomes.specs.Taking.{taken_below, slot_taken, looked};
 ghost use Rattle.settling.specs.Turns.{both_taken};
@@ -52,7 +53,7 @@ pub fn settle_all<S: Sheet, R: Rule, C: Coin>(
 }
 
 // Takes the steps of a slot: those of its sheets; then the replica proposes, with the steps of all slots, or else
-// those of its ballot are taken.
+// those of its ballot are taken. That comes to the same as taking the first listed step that applies, until none does.
 pub fn take_steps<S: Sheet, R: Rule, C: Coin>(
     records: &mut [OpeningRecord],
     rounds: &mut [R::Record],
@@ -65,7 +66,8 @@ pub fn take_steps<S: Sheet, R: Rule, C: Coin>(
     requires records { member.n ≤ length records.old }
     requires rounds { 15 * member.n ≤ length rounds.old }
     requires places { all_places member.n ≤ length places.old }
-    ensures { (l : Life) → holding R.Rule.meaning l records.new rounds.new places.new coin.new ≡ slot_taken (setting S.Sheet.rows S.Sheet.LEN S.Sheet.KIND S.Sheet.lawful R.Rule.acts C.Coin.acts) member.n member.own slot (holding R.Rule.meaning l records.old rounds.old places.old coin.old) }
+    ensures taken { (l : Life) → holding R.Rule.meaning l records.new rounds.new places.new coin.new ≡ slot_taken (setting S.Sheet.rows S.Sheet.LEN S.Sheet.KIND S.Sheet.lawful R.Rule.acts C.Coin.acts) member.n member.own slot (holding R.Rule.meaning l records.old rounds.old places.old coin.old) }
+    ensures order { SlotOrder (setting S.Sheet.rows S.Sheet.LEN S.Sheet.KIND S.Sheet.lawful R.Rule.acts C.Coin.acts) }
 {
     settle_sheets::<S>(records, places, member, slot);
     if may_propose(records, member, slot) {

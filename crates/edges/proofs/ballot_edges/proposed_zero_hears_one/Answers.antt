@@ -1,10 +1,15 @@
 -- A first vote 1 of one other is not joined.
-use Rattle.ballots.specs.States.{ballot_meaning}
+use Rattle.std.proofs.Common.{replicate}
 use Rattle.phases.proofs.Masks.{default_cleared}
+use Rattle.edges.specs.Openings.{state_of}
 use Rattle.edges.proofs.Deciding.{fresh, silent_by_one}
 use Rattle.edges.proofs.ballot_edges.proposed_zero_hears_one.Goals as goal
 
 pub returns : goal.returns
 returns g c =
-    let begin = fresh (ballot_meaning c.unopened-ballot.result) c.default-rounds.result c.args.coin.now c.unopened-ballot.ensures (default_cleared c.default-rounds.result c.default-rounds.ensures) in
-    silent_by_one _ _ c.args.coin.now c.of.result _ _ _ begin c.propose.ensures c.hear.ensures c.of.ensures
+    let coin = c.args.coin.now in
+    let round = c.default-rounds.result in
+    silent_by_one _ g.C.Coin.acts coin c.of.result
+    (state_of c.unopened-ballot.result (replicate 15 round) coin) (state_of c.propose.new.ballot c.propose.new.rounds c.propose.new.coin) (state_of c.hear.new.ballot c.hear.new.rounds c.hear.new.coin)
+    (fresh c.unopened-ballot.result round coin c.unopened-ballot.ensures (default_cleared round c.default-rounds.ensures))
+    c.propose.ensures c.hear.ensures c.of.ensures

@@ -1,10 +1,15 @@
 -- First votes 1 of two others are joined.
-use Rattle.ballots.specs.States.{ballot_meaning}
+use Rattle.std.proofs.Common.{replicate}
 use Rattle.phases.proofs.Masks.{default_cleared}
+use Rattle.edges.specs.Openings.{state_of}
 use Rattle.edges.proofs.Deciding.{fresh, joined_by_two}
 use Rattle.edges.proofs.ballot_edges.proposed_zero_hears_two.Goals as goal
 
 pub returns : goal.returns
 returns g c =
-    let begin = fresh (ballot_meaning c.unopened-ballot.result) c.default-rounds.result c.args.coin.now c.unopened-ballot.ensures (default_cleared c.default-rounds.result c.default-rounds.ensures) in
-    joined_by_two _ _ c.args.coin.now c.of.result _ _ _ begin _ c.propose.ensures c.hear.ensures c.hear-2.ensures c.of.ensures
+    let coin = c.args.coin.now in
+    let round = c.default-rounds.result in
+    joined_by_two _ g.C.Coin.acts coin c.of.result
+    (state_of c.unopened-ballot.result (replicate 15 round) coin) (state_of c.propose.new.ballot c.propose.new.rounds c.propose.new.coin) (state_of c.hear.new.ballot c.hear.new.rounds c.hear.new.coin)
+    (fresh c.unopened-ballot.result round coin c.unopened-ballot.ensures (default_cleared round c.default-rounds.ensures))
+    (state_of c.hear-2.new.ballot c.hear-2.new.rounds c.hear-2.new.coin) c.propose.ensures c.hear.ensures c.hear-2.ensures c.of.ensures

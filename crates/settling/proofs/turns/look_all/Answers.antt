@@ -17,7 +17,7 @@ loop-slot-preserved g c l =
     let m = c.args.member in
     let i = c.loop-slot.slot in
     let s : Setting _ _ = setting g.S.Sheet.rows g.S.Sheet.LEN g.S.Sheet.KIND g.S.Sheet.lawful g.R.Rule.acts g.C.Coin.acts in
-    c.take_steps.ensures l ∙ ap (slot_taken s m.n m.own i) (c.loop-slot.invariant l)
+    c.take_steps.ensures.taken l ∙ ap (slot_taken s m.n m.own i) (c.loop-slot.invariant l)
     ∙ looked_more s m.n m.own i (holding g.R.Rule.meaning l c.args.records.now c.args.rounds.now c.args.places.now c.args.coin.now)
 
 pub returns : goal.returns
