@@ -114,7 +114,7 @@ module _ {R C Row : Type 0} (g : Setting R C) (meaning : Row → Round) (n : ℕ
           (⊎_elim (w.closed i gi) (λ z. closed_may g n i (holds s i) z.1)
           (closed_by g n i (MayQuote g meaning n honest laws.rows s) laws.rows gi.0 c (holds s i) (w.cast.well i gi) can (authentic_vouched g meaning n honest laws.rows s i c au) (ap (λ (z : Holding R C). z.life) (sym e) ∙ q)))
 
-      turned_by : Turned g meaning n honest laws.rows s i (held meaning t)
+      pub turned_by : Turned g meaning n honest laws.rows s i (held meaning t)
       turned_by = record {
         votes = moved_to.well;
         closed = closed_well;

@@ -1,2 +1,7 @@
 -- The definitions that the contracts of a hall cite.
 pub mod Actives
+pub mod States
+pub mod Faults
+pub mod Tills
+pub mod Packets
+pub mod Plays

@@ -1,7 +1,17 @@
 // A hall: its tills offer, hear each other, and close.
-use crate::packet::{LONGEST, message_in};
+ghost use Rattle.std.specs.Prelude.{◌≡◌, ◌<◌, T, List, length, slice_index_or};
+ghost use Rattle.basis.specs.Halls.{listed};
+ghost use Rattle.halls.specs.declared.till.Till.{Till as ATill};
+ghost use Rattle.halls.specs.Faults.{recorded_output};
+ghost use Rattle.halls.specs.Tills.{held_by};
+ghost use Rattle.halls.specs.Plays.{Seated, Played, GoesOn, Alike, RecordsStay};
+
+use crate::calls::{Passed, close_at, offer_at, pass_at};
+use crate::opening::open_tills;
 use crate::till::{Fault, Till};
+use basis::hall::is_listed;
 use basis::heard::Heard;
+use basis::refusal::Reason;
 use scripts::command::RuleName;
 use sheets::kinds::Takings;
 use std::alloc::Global;
@@ -15,48 +25,57 @@ pub struct Hall {
     n: u8,
     rule: RuleName,
     tills: Vec<Till>,
+    ghost listed: { T (listed n) },
+    ghost counted: { length tills.items ≡ n },
+    ghost seated: { Seated n tills.items },
+    ghost played: { ∥ Played rule n tills.items ∥₁ },
 }
 
 impl Hall {
-    // Opens all tills of a hall of n. The first is opened whatever n is, and refused where no hall has that size.
+    // Opens all tills of a hall of n; refused where no hall has that size.
     pub fn open(heap: Global, n: u8, rule: RuleName, coin: u16) -> Result<Hall, Fault> {
-        let tills = (0..n.max(1))
-            .map(|number| Till::open(heap, n, number, coin))
-            .try_collect(heap)?;
+        if !is_listed(n) {
+            return Err(Fault::Refused(Reason::HallSizeNotListed.at(0)));
+        }
+        let tills = open_tills(heap, n, coin)?;
         Ok(Hall { n, rule, tills })
-    }
-
-    fn till(&mut self, number: u8) -> Result<&mut Till, Fault> {
-        self.tills
-            .get_mut(usize::from(number))
-            .ok_or(Fault::Misplaced)
     }
 
     // A till of the hall offers takings.
     pub fn offer(&mut self, number: u8, cents: i64, receipts: u32) -> Result<(), Fault> {
         let sheet = Takings::new(cents, receipts)?;
-        let rule = self.rule;
-        self.till(number)?.offer(rule, &sheet)
+        if number >= self.n {
+            return Err(Fault::Misplaced);
+        }
+        offer_at(&mut self.tills, self.n, self.rule, number, &sheet)
+    }
+
+    // Writes the closing record of a closed till, and answers its length. Any two closed tills have the same one, and
+    // whatever calls follow, closed tills stay closed and keep it.
+    fn record(&self, number: u8, out: &mut [u8]) -> Result<usize, Fault>
+        requires { number < self.now.n }
+        ensures written { (d : ATill) → out.new ≡ recorded_output (slice_index_or self.now.tills.items number d).state out.old (held_by (slice_index_or self.now.tills.items number d)) }
+        ensures alike { Alike self.now.n self.now.tills.items }
+        ensures stay { (ts : List ATill) → GoesOn self.now.rule self.now.n self.now.tills.items ts → RecordsStay self.now.n self.now.tills.items ts }
+    {
+        self.tills[usize::from(number)].record(out)
     }
 
     // Closes a till, and writes its closing record; answers the record's length.
     pub fn close(&mut self, number: u8, out: &mut [u8]) -> Result<usize, Fault> {
-        let till = self.till(number)?;
-        till.close()?;
-        till.record(out)
+        if number >= self.n {
+            return Err(Fault::Misplaced);
+        }
+        close_at(&mut self.tills, self.n, self.rule, number)?;
+        self.record(number, out)
     }
 
-    // A till says its first message at or after a position, and another hears it: the position, and whether it was new.
-    fn pass(&mut self, from: u8, to: u8, position: u32) -> Result<Option<(u32, Heard)>, Fault> {
-        let rule = self.rule;
-        let mut out = [0u8; LONGEST];
-        match self.till(from)?.say(rule, position, &mut out)? {
-            Some(said) => {
-                let heard = self.till(to)?.hear(rule, from, message_in(&out))?;
-                Ok(Some((said, heard)))
-            }
-            None => Ok(None),
+    // A till says its first message at or after a position, and another hears it.
+    fn pass(&mut self, from: u8, to: u8, position: u32) -> Result<Option<Passed>, Fault> {
+        if from >= self.n || to >= self.n {
+            return Err(Fault::Misplaced);
         }
+        pass_at(&mut self.tills, self.n, self.rule, from, to, position)
     }
 
     // Loops for their effect, this one and those below: each turn changes the tills.
@@ -66,11 +85,11 @@ impl Hall {
         let mut any_new = false;
         let mut position = 0u32;
         for _ in 0..0x31_0000u32 {
-            let Ok(Some((said, heard))) = self.pass(from, to, position) else {
+            let Ok(Some(passed)) = self.pass(from, to, position) else {
                 break;
             };
-            any_new |= matches!(heard, Heard::New);
-            position = said.saturating_add(1);
+            any_new |= matches!(passed.heard, Heard::New);
+            position = passed.position.saturating_add(1);
         }
         any_new
     }

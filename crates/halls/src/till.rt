@@ -1,4 +1,15 @@
 // One till of a hall: its replica, in its state, with the tables and the coin that the till lends it.
+ghost use Rattle.std.specs.Prelude.{◌≡◌, Some, IfOk, OnOk, replicate};
+ghost use Rattle.scripts.specs.declared.command.RuleName.{RuleName as AnyRule};
+ghost use Rattle.outcomes.specs.Opening.{Opened};
+ghost use Rattle.sheets.specs.OfTakings.{takings_bytes};
+ghost use Rattle.halls.specs.declared.till.Fault.TheVariants.{Refused as IsRefused};
+ghost use Rattle.halls.specs.Faults.{fault_told, heard_of, said_of, said_output, closed_of, recorded_output};
+ghost use Rattle.halls.specs.States.{setting_of, numbers_in, is_active, offer_left, hear_left, close_left};
+ghost use Rattle.halls.specs.Tills.{held_by};
+ghost use Rattle.saying.specs.SaysTheFirst.{SaysTheFirst};
+
+use crate::ruled::offer_by;
 use crate::state::{Active, State};
 use ballots::ballot::Ballot;
 use basis::heard::Heard;
@@ -6,9 +17,8 @@ use basis::refusal::Refusal;
 use broadcast::calls::ROUNDS;
 use coins::dealt::DealtCoin;
 use outcomes::opening_record::OpeningRecord;
-use phases::phased::{ThreePhase, TwoPhase};
+use phases::phased::TwoPhase;
 use phases::round::PhasedRound;
-use replica::offered::Offered;
 use replica::states::Fresh;
 use scripts::command::RuleName;
 use sheets::kinds::{Takings, TakingsRow};
@@ -30,6 +40,8 @@ pub enum Fault {
 }
 
 impl From<Refusal> for Fault {
+    ghost from_gives = { λ refusal e. e ≡ IsRefused refusal };
+
     fn from(refusal: Refusal) -> Fault {
         Fault::Refused(refusal)
     }
@@ -65,7 +77,11 @@ fn vacant_record() -> OpeningRecord {
 
 impl Till {
     // Opens till `number` of a hall of n, with tables and a coin of its own.
-    pub fn open(heap: Global, n: u8, number: u8, coin: u16) -> Result<Till, Fault> {
+    pub fn open(heap: Global, n: u8, number: u8, coin: u16) -> Result<Till, Fault>
+        ensures numbers { IfOk result (λ t. numbers_in t.state ≡ Some (record { n = n; own = number })) }
+        ensures coin { IfOk result (λ t. t.coin ≡ record { numbers = replicate 16 coin }) }
+        ensures opened { (rule : AnyRule) → IfOk result (λ t. Opened (setting_of rule) n number (held_by t)) }
+    {
         let size = usize::from(n);
         let mut records = vec![in heap; vacant_record(); size]?;
         let mut rounds = vec![in heap; PhasedRound::default(); ROUNDS * size]?;
@@ -86,12 +102,17 @@ impl Till {
         })
     }
 
-    pub fn has_offered(&self) -> bool {
+    pub fn has_offered(&self) -> bool
+        ensures { result ≡ is_active self.now.state }
+    {
         matches!(self.state, State::Active(_))
     }
 
     // Offers takings, where the till has not offered yet. A refused offer leaves it as it was.
-    pub fn offer(&mut self, rule: RuleName, sheet: &Takings) -> Result<(), Fault> {
+    pub fn offer(&mut self, rule: RuleName, sheet: &Takings) -> Result<(), Fault>
+        ensures numbers { numbers_in self.new.state ≡ numbers_in self.old.state }
+        ensures left { held_by self.new ≡ offer_left rule self.old.state (takings_bytes sheet.now) (held_by self.old) }
+    {
         if self.has_offered() {
             return Err(Fault::Misplaced);
         }
@@ -102,15 +123,7 @@ impl Till {
         let rounds = self.rounds.as_mut_slice();
         let places = self.places.as_mut_slice();
         let coin = &mut self.coin;
-        let offered = match rule {
-            RuleName::Two => {
-                fresh.offer::<Takings, TwoPhase, DealtCoin>(sheet, records, rounds, places, coin)
-            }
-            RuleName::Three => {
-                fresh.offer::<Takings, ThreePhase, DealtCoin>(sheet, records, rounds, places, coin)
-            }
-        };
-        match offered {
+        match offer_by(rule, fresh, sheet, records, rounds, places, coin) {
             Ok(running) => {
                 self.state = State::Active(Active::Running(running));
                 Ok(())
@@ -123,7 +136,11 @@ impl Till {
     }
 
     // Hears a packet from a sender, if the till has offered.
-    pub fn hear(&mut self, rule: RuleName, sender: u8, packet: &[u8]) -> Result<Heard, Fault> {
+    pub fn hear(&mut self, rule: RuleName, sender: u8, packet: &[u8]) -> Result<Heard, Fault>
+        ensures state { self.new.state ≡ self.old.state }
+        ensures answer { fault_told result ≡ heard_of rule self.old.state sender packet.now (held_by self.old) }
+        ensures left { held_by self.new ≡ hear_left rule self.old.state sender packet.now (held_by self.old) }
+    {
         let State::Active(active) = &self.state else {
             return Err(Fault::Misplaced);
         };
@@ -131,19 +148,15 @@ impl Till {
         let rounds = self.rounds.as_mut_slice();
         let places = self.places.as_mut_slice();
         let coin = &mut self.coin;
-        let heard = match rule {
-            RuleName::Two => active.hear::<Takings, TwoPhase, DealtCoin>(
-                sender, packet, records, rounds, places, coin,
-            ),
-            RuleName::Three => active.hear::<Takings, ThreePhase, DealtCoin>(
-                sender, packet, records, rounds, places, coin,
-            ),
-        };
-        Ok(heard?)
+        Ok(active.hear_by(rule, sender, packet, records, rounds, places, coin)?)
     }
 
     // Writes the first message that the till has said at or after a position, and answers its position.
-    pub fn say(&self, rule: RuleName, from: u32, out: &mut [u8]) -> Result<Option<u32>, Fault> {
+    pub fn say(&self, rule: RuleName, from: u32, out: &mut [u8]) -> Result<Option<u32>, Fault>
+        ensures answer { fault_told result ≡ said_of rule self.now.state from out.old (held_by self.now) }
+        ensures law { OnOk result (SaysTheFirst (setting_of rule)) }
+        ensures output { out.new ≡ said_output rule self.now.state from out.old (held_by self.now) }
+    {
         let State::Active(active) = &self.state else {
             return Err(Fault::Misplaced);
         };
@@ -151,21 +164,15 @@ impl Till {
         let rounds = self.rounds.as_slice();
         let places = self.places.as_slice();
         let coin = &self.coin;
-        let said = match rule {
-            RuleName::Two => {
-                active.say::<Takings, TwoPhase, DealtCoin>(from, out, records, rounds, places, coin)
-            }
-            RuleName::Three => {
-                active.say::<Takings, ThreePhase, DealtCoin>(
-                    from, out, records, rounds, places, coin,
-                )
-            }
-        };
-        Ok(said?)
+        Ok(active.say_by(rule, from, out, records, rounds, places, coin)?)
     }
 
     // Closes the replica, where it runs.
-    pub fn close(&mut self) -> Result<(), Fault> {
+    pub fn close(&mut self) -> Result<(), Fault>
+        ensures numbers { numbers_in self.new.state ≡ numbers_in self.old.state }
+        ensures answer { (rule : AnyRule) → fault_told result ≡ closed_of rule self.old.state (held_by self.old) }
+        ensures left { (rule : AnyRule) → held_by self.new ≡ close_left rule self.old.state (held_by self.old) }
+    {
         match replace(&mut self.state, State::Gone) {
             State::Active(Active::Running(running)) => {
                 let records = self.records.as_slice();
@@ -190,7 +197,9 @@ impl Till {
     }
 
     // Writes the closing record of a closed till and answers its length.
-    pub fn record(&self, out: &mut [u8]) -> Result<usize, Fault> {
+    pub fn record(&self, out: &mut [u8]) -> Result<usize, Fault>
+        ensures { out.new ≡ recorded_output self.now.state out.old (held_by self.now) }
+    {
         let State::Active(Active::Closed(closed)) = &self.state else {
             return Err(Fault::Misplaced);
         };

@@ -21,6 +21,12 @@ pub fn told<T>(answer: Result<T, Refusal>) -> Told<T> {
     answer.map_err(|e| (e.reason.number(), e.place))
 }
 
+// The closing record where replicas 0 to 2 are in, with takings of 1250, -200 and 0 cents.
+pub const RECORD_OF_THREE: &[u8] = b"\x40\x00\x04\x01\x04\x00\x07\
+    \x41\x00\x0d\x00\x00\x00\x00\x00\x00\x00\x04\xe2\x00\x00\x00\x03\
+    \x41\x00\x0d\x01\xff\xff\xff\xff\xff\xff\xff\x38\x00\x00\x00\x01\
+    \x41\x00\x0d\x02\x00\x00\x00\x00\x00\x00\x00\x00\x00\x00\x00\x00";
+
 // Tables for a hall of four.
 #[derive(Clone, Copy, PartialEq, Debug)]
 pub struct Tables<Row> {
@@ -42,8 +48,8 @@ pub fn empty_tables<S: Sheet>() -> Tables<S::Row> {
     }
 }
 
-// A replica that has offered a sheet and is running or closed, under the two-phase rule or, with `THIRD`, the three-phase
-// one.
+// A replica that has offered a sheet and is running or closed, under the two-phase rule or, with `THIRD`, the
+// three-phase one.
 #[derive(Drop)]
 pub struct Replica<L, S: Sheet, C, const THIRD: bool> {
     pub state: L,

@@ -2,6 +2,16 @@
 #![tactic(auto)]
 
 #[cfg(test)]
+mod closed;
+#[cfg(test)]
+mod evening;
+#[cfg(test)]
 mod four;
 #[cfg(test)]
+mod opening;
+#[cfg(test)]
 mod packets;
+#[cfg(test)]
+mod said;
+#[cfg(test)]
+mod steps;

@@ -1,0 +1,15 @@
+-- The evening goes on by the call.
+use Rattle.std.proofs.Math.Logic.{∥∥₁_map}
+use Rattle.halls.specs.Plays.{Played}
+use Rattle.halls.proofs.Playing.{played_on}
+use Rattle.halls.proofs.hall.Hall.offer.Goals as goal
+
+pub invariant_of-self : goal.invariant_of-self
+invariant_of-self c =
+    let h = c.args.self.now in
+    record {
+      listed = h.listed;
+      counted = c.offer_at.ensures.counted;
+      seated = c.offer_at.ensures.seated;
+      played = ∥∥₁_map h.played (λ (p : Played h.rule h.n h.tills.items). played_on h.rule h.n h.tills.items c.offer_at.new.tills.items p c.offer_at.ensures.goes_on);
+    }
