@@ -1,5 +1,5 @@
 -- A hall's evening goes on by a call at one till. Assumes nothing.
-use Rattle.std.proofs.Common.{◌≡◌, ℕ, ◌<◌, ◌≢◌, true, ◌⊎◌, List, Some, Option, length, sym, refl, ap, ◌∙◌, subst, inl, inr, get_or, set, arith}
+use Rattle.std.proofs.Common.{◌≡◌, ℕ, ◌<◌, ◌≢◌, true, ◌⊎◌, List, Some, Option, length, sym, refl, ap, ◌∙◌, subst, subst₂, inl, inr, get_or, set, arith}
 use Rattle.std.proofs.lemmas.List.{get_or-set_same, get_or-set_other, get_or_default}
 use Rattle.basis.specs.Bytes.{Octets}
 use Rattle.basis.specs.Members.{Numbers}
@@ -11,7 +11,7 @@ use Rattle.scripts.specs.declared.command.RuleName.{RuleName}
 use Rattle.sheets.specs.OfTakings.{takings_lawful}
 use Rattle.halls.specs.States.{Held, setting_of, life_of, numbers_in, offer_left, hear_left, close_left}
 use Rattle.halls.specs.Tills.{replica_of, held_by}
-use Rattle.halls.specs.Plays.{all_honest, Replicas, Seated, Shows, Played, GoesOn}
+use Rattle.halls.specs.Plays.{all_honest, Replicas, Seated, Shows, Played, GoesOn, Continued}
 use Rattle.halls.specs.declared.state.Active.TheVariants.{Running, Closed}
 use Rattle.halls.specs.declared.state.State.{State}
 use Rattle.halls.specs.declared.state.State.TheVariants as state
@@ -124,3 +124,14 @@ module _ (rule : RuleName) (n : ℕ) where
 
     pub seated_then : numbers_in t.state ≡ numbers_in told.state → Seated n (set ts i t)
     seated_then e = seated_set ts i t inside sat (e ∙ ap (λ (z : Till). numbers_in z.state) stood)
+
+-- a hall that nothing was done to, and one after another
+pub continued_none : (rule : RuleName) (n : ℕ) (ts : List Till) → Continued rule n ts rule n ts
+continued_none rule n ts = record { same_rule = refl; same_size = refl; goes_on = goes_none rule n ts }
+
+pub continued_then : (rule rule' rule'' : RuleName) (n n' n'' : ℕ) (ts ts' ts'' : List Till) → Continued rule n ts rule' n' ts' → Continued rule' n' ts' rule'' n'' ts'' → Continued rule n ts rule'' n'' ts''
+continued_then rule rule' rule'' n n' n'' ts ts' ts'' a b = record {
+  same_rule = b.same_rule ∙ a.same_rule;
+  same_size = b.same_size ∙ a.same_size;
+  goes_on = goes_then rule n ts ts' ts'' a.goes_on (subst₂ (λ (r : RuleName) (m : ℕ). GoesOn r m ts' ts'') a.same_rule a.same_size b.goes_on);
+}

@@ -41,6 +41,12 @@ module _ (rule : RuleName) (n : ℕ) where
   abbrev pub GoesOn : List Till → List Till → Type 0
   GoesOn ts ts' = (s : Replicas) → Shows n ts s → (s' : Replicas) × Leads (setting_of rule) meaning_of n all_honest s s' × Shows n ts' s'
 
+-- a hall is the same hall later: its size and its rule stay, and its evening goes on
+pub record Continued (rule : RuleName) (n : ℕ) (ts : List Till) (rule' : RuleName) (n' : ℕ) (ts' : List Till) : Type 0 where
+  pub same_rule : rule' ≡ rule
+  pub same_size : n' ≡ n
+  pub goes_on : GoesOn rule n ts ts'
+
 -- the closing record of a till
 abbrev pub record_of : ℕ → Till → List ℕ
 record_of n t = closing_record takings_rows n (closing_view (held_by t)) 12 1

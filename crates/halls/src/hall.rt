@@ -4,7 +4,7 @@ ghost use Rattle.basis.specs.Halls.{listed};
 ghost use Rattle.halls.specs.declared.till.Till.{Till as ATill};
 ghost use Rattle.halls.specs.Faults.{recorded_output};
 ghost use Rattle.halls.specs.Tills.{held_by};
-ghost use Rattle.halls.specs.Plays.{Seated, Played, GoesOn, Alike, RecordsStay};
+ghost use Rattle.halls.specs.Plays.{Seated, Played, GoesOn, Continued, Alike, RecordsStay};
 
 use crate::calls::{Passed, close_at, offer_at, pass_at};
 use crate::opening::open_tills;
@@ -41,8 +41,10 @@ impl Hall {
         Ok(Hall { n, rule, tills })
     }
 
-    // A till of the hall offers takings.
-    pub fn offer(&mut self, number: u8, cents: i64, receipts: u32) -> Result<(), Fault> {
+    // A till of the hall offers takings. The evening goes on by this call and the others, refused ones too.
+    pub fn offer(&mut self, number: u8, cents: i64, receipts: u32) -> Result<(), Fault>
+        ensures { Continued self.old.rule self.old.n self.old.tills.items self.new.rule self.new.n self.new.tills.items }
+    {
         let sheet = Takings::new(cents, receipts)?;
         if number >= self.n {
             return Err(Fault::Misplaced);
@@ -62,7 +64,9 @@ impl Hall {
     }
 
     // Closes a till, and writes its closing record; answers the record's length.
-    pub fn close(&mut self, number: u8, out: &mut [u8]) -> Result<usize, Fault> {
+    pub fn close(&mut self, number: u8, out: &mut [u8]) -> Result<usize, Fault>
+        ensures { Continued self.old.rule self.old.n self.old.tills.items self.new.rule self.new.n self.new.tills.items }
+    {
         if number >= self.n {
             return Err(Fault::Misplaced);
         }
@@ -71,7 +75,9 @@ impl Hall {
     }
 
     // A till says its first message at or after a position, and another hears it.
-    fn pass(&mut self, from: u8, to: u8, position: u32) -> Result<Option<Passed>, Fault> {
+    fn pass(&mut self, from: u8, to: u8, position: u32) -> Result<Option<Passed>, Fault>
+        ensures { Continued self.old.rule self.old.n self.old.tills.items self.new.rule self.new.n self.new.tills.items }
+    {
         if from >= self.n || to >= self.n {
             return Err(Fault::Misplaced);
         }
@@ -81,7 +87,9 @@ impl Hall {
     // Loops for their effect, this one and those below: each turn changes the tills.
     // Passes on all messages of a till to another, positions rising; whether one was new. A till says at most one message at
     // each of its positions, which lie below 0x310000.
-    fn pass_all(&mut self, from: u8, to: u8) -> bool {
+    fn pass_all(&mut self, from: u8, to: u8) -> bool
+        ensures { Continued self.old.rule self.old.n self.old.tills.items self.new.rule self.new.n self.new.tills.items }
+    {
         let mut any_new = false;
         let mut position = 0u32;
         for _ in 0..0x31_0000u32 {
@@ -95,7 +103,9 @@ impl Hall {
     }
 
     // All others hear a till, numbers rising; whether a message was new.
-    fn tell_all(&mut self, from: u8) -> bool {
+    fn tell_all(&mut self, from: u8) -> bool
+        ensures { Continued self.old.rule self.old.n self.old.tills.items self.new.rule self.new.n self.new.tills.items }
+    {
         let mut any_new = false;
         for to in 0..self.n {
             if to != from {
@@ -106,7 +116,9 @@ impl Hall {
     }
 
     // All tills are heard by all others, numbers rising; whether a message was new.
-    fn sweep(&mut self) -> bool {
+    fn sweep(&mut self) -> bool
+        ensures { Continued self.old.rule self.old.n self.old.tills.items self.new.rule self.new.n self.new.tills.items }
+    {
         let mut any_new = false;
         for from in 0..self.n {
             any_new |= self.tell_all(from);
@@ -114,8 +126,10 @@ impl Hall {
         any_new
     }
 
-    // The tills that have offered hear each other, until a sweep brings nothing new.
-    pub fn rest(&mut self) -> bool {
+    // The tills that have offered hear each other, until a sweep brings nothing new. The evening goes on by it.
+    pub fn rest(&mut self) -> bool
+        ensures { Continued self.old.rule self.old.n self.old.tills.items self.new.rule self.new.n self.new.tills.items }
+    {
         for _ in 0..0x1000_0000u32 {
             if !self.sweep() {
                 return true;

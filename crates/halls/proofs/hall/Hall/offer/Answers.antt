@@ -1,7 +1,7 @@
 -- The evening goes on by the call.
 use Rattle.std.proofs.Math.Logic.{∥∥₁_map}
 use Rattle.halls.specs.Plays.{Played}
-use Rattle.halls.proofs.Playing.{played_on}
+use Rattle.halls.proofs.Playing.{played_on, continued_none}
 use Rattle.halls.proofs.hall.Hall.offer.Goals as goal
 
 pub invariant_of-self : goal.invariant_of-self
@@ -13,3 +13,9 @@ invariant_of-self c =
       seated = c.offer_at.ensures.seated;
       played = ∥∥₁_map h.played (λ (p : Played h.rule h.n h.tills.items). played_on h.rule h.n h.tills.items c.offer_at.new.tills.items p c.offer_at.ensures.goes_on);
     }
+
+pub returns-in_err-sheet : goal.returns-in_err-sheet
+returns-in_err-sheet c = continued_none c.args.self.now.rule c.args.self.now.n c.args.self.now.tills.items
+
+pub returns-then-number-self : goal.returns-then-number-self
+returns-then-number-self c = continued_none c.args.self.now.rule c.args.self.now.n c.args.self.now.tills.items
