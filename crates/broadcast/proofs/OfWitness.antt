@@ -5,13 +5,13 @@ use Rattle.std.proofs.lemmas.Bool.{and_parts, eqb-true, lt-ltb}
 use Rattle.basis.specs.Counts.{count}
 use Rattle.basis.specs.Halls.{faults}
 use Rattle.sheets.specs.declared.kinds.TakingsRow.{TakingsRow}
-use Rattle.sheets.specs.OfTakings.{takings_lawful, takings_held, takings_empty}
+use Rattle.sheets.specs.OfTakings.{takings_lawful, takings_held, takings_empty, takings_rows}
 use Rattle.sheets.specs.OfTakingsLemmas.{amount_octets, amount_lawful, held_row, kept_of}
 use Rattle.slots.specs.declared.slot.Slot.{Slot}
 use Rattle.slots.specs.Steps.{cleared}
 use Rattle.broadcast.specs.Calls.{Fresh, Holding, Opened}
 use Rattle.broadcast.specs.Claims.{RowLaws}
-use Rattle.broadcast.specs.Witness.{takings_rows, four_takings, first_three, some_takings, SomeRunDelivers}
+use Rattle.broadcast.specs.Witness.{four_takings, first_three, some_takings, SomeRunDelivers}
 use Rattle.broadcast.proofs.Delivering.{run_delivers}
 
 takings_laws : RowLaws takings_rows 12 takings_lawful

@@ -45,7 +45,7 @@ module _ {R : Type 0} (rows : Rows R) (y : Syntax) (honest : ℕ → Bool) (s : 
     -- a delivered slot stays delivered, with its sheet, whatever is called next
     pub lasting : (i k : ℕ) (a : List ℕ) (c : Call (List ℕ)) → Honest i → k < y.replicas → Allowed rows y c (s i) → Authentic (replicas rows y) y.replicas honest s i c → delivered i k ≡ Some a →
         delivered_sheet_lem rows y.replicas i k (call_after rows y i c (s i)).slots ≡ Some a
-    -- for an honest replica's slot the sheet that it has sent is delivered
+    -- what is delivered for an honest replica's slot is the sheet that it has sent
     pub valid : (i k : ℕ) (a : List ℕ) → Honest i → Honest k → delivered i k ≡ Some a → sent k ≡ Some a
     -- and an honest replica has sent what it was called to offer
     pub sent_offered : (k : ℕ) (a : List ℕ) → Honest k → sent k ≡ Some a → Offered (replicas rows y) y.replicas honest run k a

@@ -2,15 +2,10 @@
 use Rattle.std.specs.Prelude.{◌≡◌, ℕ, ◌<◌, Bool, List, pos, Some, nat_lt}
 use Rattle.messages.specs.Reading.{Syntax}
 use Rattle.sheets.specs.declared.kinds.TakingsRow.{TakingsRow}
-use Rattle.sheets.specs.OfTakings.{amount_bytes, takings_lawful, takings_held, takings_row, takings_empty}
-use Rattle.sheets.specs.Holds.{Rows}
+use Rattle.sheets.specs.OfTakings.{amount_bytes, takings_lawful, takings_rows}
 use Rattle.slots.specs.Steps.{delivered_sheet_lem}
 use Rattle.broadcast.specs.Runs.{Run}
 use Rattle.broadcast.specs.Calls.{Holding, of_hall, replicas}
-
--- tables of takings
-abbrev pub takings_rows : Rows TakingsRow
-takings_rows = record { held = takings_held; row = takings_row; vacant = takings_empty }
 
 -- a hall of four that lists takings
 abbrev pub four_takings : Syntax

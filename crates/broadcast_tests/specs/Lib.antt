@@ -1,0 +1,1 @@
+-- Tests alone. Declares nothing.

@@ -112,4 +112,5 @@ module _ {R C Row : Type 0} (g : Setting R C) (meaning : Row → Round) (n : ℕ
       same_lists = λ i j index gi gj ci cj. list_same g n i j (now i) (then j) (same_outcome coins i j gi gj ci cj) (w.closed i gi ci).sizes (w'.closed j gj cj).sizes index;
       same_records = λ i j gi gj ci cj. record_same g n i j (now i) (then j) (same_outcome coins i j gi gj ci cj);
       no_accusation = λ i j xs e gi gj ne d q. said_unrefused g n i j (then i) xs laws.rows (now j) d (w'.cast.well i gi).sizes gj.0 ne (alone i j xs gi gj d.message d.lawful d.has_said) e q;
+      coins_sound = λ i gi. (w'.votes i gi).coin;
     }

@@ -14,7 +14,7 @@ use Rattle.rules.specs.Laws.{Laws}
 use Rattle.rules.specs.Rounds.{Round, bit_set}
 use Rattle.ballot_runs.specs.Runs.{opened}
 use Rattle.ballot_runs.proofs.Lasting.{stays_same, stays_then, turns_stay}
-use Rattle.broadcast.proofs.Moves.{Grows, grows_on, moves_none, Sound}
+use Rattle.broadcast.proofs.Moves.{grows_on, moves_none, Sound}
 use Rattle.broadcast.proofs.Tables.{none_some}
 use Rattle.outcomes.specs.Calls.{Call, offer, hear, look, say, close, list, write, Allowed, HasSaid, Said, call_after}
 use Rattle.outcomes.specs.Hearing.{hear_answer_lem, hear_after}
@@ -151,6 +151,7 @@ module _ {R C Row : Type 0} (g : Setting R C) (meaning : Row → Round) (n : ℕ
     closed = λ i gi q. absurd (let p = sym (o i gi).fresh ∙ q in let z : ◌≡◌ {A = ℕ} 0 1 = cc in omega arith);
     run = opened (ballots_of g meaning n honest laws.rows s) (λ i k gi. opened_fresh g n i (holds s i) (o i gi) k);
     shares = λ i j k r v gi gj to se h. absurd (none_some ((o i gi).new_coin.none_taken k r j to se) h);
+    own_shares = λ i k r v gi to se h. absurd (none_some ((o i gi).new_coin.none_taken k r i to se) h);
   }
 
   -- what calls in any order lead to

@@ -76,6 +76,8 @@ module _ {R C Row : Type 0} (g : Setting R C) (meaning : Row → Round) (n : ℕ
     pub closed : (i : ℕ) → Fine i → ClosedWell i (holds_at s i)
     pub run : Run g.rule n honest (ballots_of s)
     pub shares : (i j k r v : ℕ) → Fine i → Fine j → Tossed k r → Sender j → share_at s i k r j ≡ Some v → share_at s j k r j ≡ Some v
+    -- a share under the own number is the own one
+    pub own_shares : (i k r v : ℕ) → Fine i → Tossed k r → Sender i → share_at s i k r i ≡ Some v → g.coins.own (s i).coin k r ≡ Some v
 
   -- what a replica has stays
   pub record Grown (h h' : Holding R C) : Type 0 where
@@ -94,6 +96,8 @@ module _ {R C Row : Type 0} (g : Setting R C) (meaning : Row → Round) (n : ℕ
           (ap (λ (z : Replica R C Row). view_of g n (held meaning z)) (upd_here s i t)) (λ j ne. refl) (λ j ne. ap (λ (z : Replica R C Row). view_of g n (held meaning z)) (upd_there s i j t ne)) d.turns w.run;
       shares = λ l j k r v gl gj to se h. at_upd (λ (z : Replica R C Row). g.coins.taken_of z.coin k r j ≡ Some v → share_at (upd s i t) j k r j ≡ Some v) s i l t
           (λ e h'. taken_here j k r v gj to se h') (λ _ h'. kept_share j k r v to se (w.shares l j k r v gl gj to se h')) h;
+      own_shares = λ j k r v gj to se h. at_upd (λ (z : Replica R C Row). g.coins.taken_of z.coin k r j ≡ Some v → g.coins.own z.coin k r ≡ Some v) s i j t
+          (λ e h'. own_here k r v to (subst Sender e se) (subst (λ (z : ℕ). g.coins.taken_of t.coin k r z ≡ Some v) e h')) (λ _ h'. w.own_shares j k r v gj to se h') h;
     }
       where
         -- a share that stands at the coin of its sender still stands there
@@ -101,11 +105,17 @@ module _ {R C Row : Type 0} (g : Setting R C) (meaning : Row → Round) (n : ℕ
         kept_share j k r v to se h = at_upd (λ (z : Replica R C Row). g.coins.taken_of z.coin k r j ≡ Some v) s i j t
             (λ e. d.coin.taken k r j to se v (ap (λ (z : ℕ). share_at s z k r j) (sym e) ∙ h)) (λ _. h)
 
+        own_here : (k r v : ℕ) → Tossed k r → Sender i → g.coins.taken_of t.coin k r i ≡ Some v → g.coins.own t.coin k r ≡ Some v
+        own_here k r v to se h = d.coin.fixed k r to ∙ ⊎_elim
+            (λ old. w.own_shares i k r v gi to se old)
+            (⊎_elim (λ mine. mine.1) (λ ok. w.own_shares i k r v gi to se (ok gi.1)))
+            (d.coin.only k r i to se v h)
+
         taken_here : (j k r v : ℕ) → Fine j → Tossed k r → Sender j → g.coins.taken_of t.coin k r j ≡ Some v → share_at (upd s i t) j k r j ≡ Some v
         taken_here j k r v gj to se h = ⊎_elim
             (λ old. kept_share j k r v to se (w.shares i j k r v gi gj to se old))
             (⊎_elim
-            (λ mine. ap (λ (z : Replica R C Row). g.coins.taken_of z.coin k r j) (ap (upd s i t) mine ∙ upd_here s i t) ∙ h)
+            (λ mine. ap (λ (z : Replica R C Row). g.coins.taken_of z.coin k r j) (ap (upd s i t) mine.0 ∙ upd_here s i t) ∙ h)
             (λ ok. kept_share j k r v to se (ok gj.1)))
             (d.coin.only k r j to se v h)
 

@@ -10,11 +10,12 @@ use Rattle.messages.specs.Tags.{uses, basic_tags}
 use Rattle.rules.specs.Laws.{EndsRounds}
 use Rattle.rules.specs.Rounds.{Round}
 use Rattle.slots.specs.Places.{sheet_of}
+use Rattle.ballots.specs.States.{round_at}
 use Rattle.ballot_runs.specs.Views.{View, face}
 use Rattle.ballot_runs.specs.Rest.{Rest, Over}
 use Rattle.ballot_runs.proofs.Ending.{rounds_end}
-use Rattle.outcomes.specs.Closing.{closing_view, is_decided_in, sheet_of_slot, close_answer}
-use Rattle.outcomes.specs.Holdings.{Closed, Setting, Holding, sizes_ok, is_delivered, ballot_at}
+use Rattle.outcomes.specs.Closing.{closing_view, sheet_of_slot, close_answer}
+use Rattle.outcomes.specs.Holdings.{Closed, Setting, Holding, sizes_ok, is_delivered, ballot_at, state_of}
 use Rattle.outcomes.specs.Taking.{looked}
 use Rattle.evenings.specs.Evenings.{Replica, held}
 use Rattle.evenings.specs.Claims.{Lawful, Sayable, SaysSayable, AtRest, NobodyWaits, Shown, RestIfRoundsEnd}
@@ -121,6 +122,15 @@ module _ {R C Row : Type 0} (g : Setting R C) (meaning : Row → Round) (n : ℕ
       before zero l each = (quiet i k gi lk).proposed (many i gi)
       before (suc q) l each = (each q (omega arith)).1 (omega arith)
 
+  shares_said : (i k r v : ℕ) → Fine i → k < n → 1 ≤ r → r ≤ 15 → 0 < (round_at k r (state_of k (has i))).entered → 0 < (round_at k r (state_of k (has i))).verdict →
+      g.coins.uses ≡ true → g.coins.own (has i).coin k r ≡ Some v → g.coins.taken_of (has i).coin k r i ≡ Some v
+  shares_said i k zero v gi lk lo hi en ve u o = absurd (omega arith)
+  shares_said i k (suc q) v gi lk lo hi en ve u o =
+      let e = view_round g n (has i) k lk (suc q) (omega arith) in
+      let x = some_from (g.coins.taken_of (has i).coin k (suc q) i) ((quiet i k gi lk).shared q (omega arith) (subst (λ (m : Round). 0 < m.entered) (sym e) en) (subst (λ (m : Round). 0 < m.verdict) (sym e) ve) u v o) in
+      let most = at_most_16 n li in
+      x.1 ∙ sym (w.own_shares i k (suc q) x.0 gi (record { ballot_below = omega (arith, most, lk); round_from = omega arith; round_to = hi }) (let z = gi.0 in omega (arith, most, z)) x.1) ∙ o
+
   can_close : (i : ℕ) → Fine i → ((k : ℕ) → k < n → 0 < (ballot_at k (has i)).decided) → ((s i).life ≡ Closed) ⊎ (close_answer g.rows n (closing_view (has i)) ≡ Ok tt)
   can_close i gi all = inr (may_closed g n i (has i) (record {
     sizes = (w.cast.well i gi).sizes;
@@ -131,7 +141,7 @@ module _ {R C Row : Type 0} (g : Setting R C) (meaning : Row → Round) (n : ℕ
   }))
 
   pub nobody_waits : NobodyWaits g meaning n honest s
-  nobody_waits = record { rounds_over = over; can_close = can_close }
+  nobody_waits = record { rounds_over = over; shares_said = shares_said; can_close = can_close }
 
 pub rest_if_rounds_end : {R C Row : Type 0} (g : Setting R C) (meaning : Row → Round) → Lawful g → RestIfRoundsEnd g meaning
 rest_if_rounds_end g meaning laws ends says n honest s li few e rest = nobody_waits g meaning n honest laws ends says li few s (evening_whole g meaning n honest laws li few e) rest

@@ -3,3 +3,4 @@ pub mod Lowest
 pub mod Entries
 pub mod Sets
 pub mod Fields
+pub mod Listing

@@ -1,3 +1,4 @@
 -- The definitions that the contracts of closing cite.
 pub mod Telling
 pub mod RecordLength
+pub mod ListTells

@@ -3,6 +3,7 @@ ghost use Rattle.std.specs.Prelude.{◌≡◌};
 ghost use Rattle.basis.specs.Refusals.{told};
 ghost use Rattle.outcomes.specs.Tables.{viewed};
 ghost use Rattle.outcomes.specs.Closing.{lowest, stands_at, entry_at, list_answer};
+ghost use Rattle.closing.specs.ListTells.{ListTells};
 ghost use Rattle.closing.specs.Telling.{entry_told};
 
 use crate::view::ClosingView;
@@ -45,7 +46,8 @@ pub fn list_entry<S: Sheet>(
     places: &[S::Row],
     index: usize,
 ) -> Result<ListEntry<S>, Refusal>
-    ensures { entry_told S.Sheet.bytes result ≡ list_answer S.Sheet.rows member.n (viewed records.now rounds places.now) index }
+    ensures answer { entry_told S.Sheet.bytes result ≡ list_answer S.Sheet.rows member.n (viewed records.now rounds places.now) index }
+    ensures law { ListTells S.Sheet.rows }
 {
     if !are_large_enough(member.n, records.len(), rounds, places.len()) {
         return Err(Reason::TablesTooSmall.at(0));

@@ -1,7 +1,7 @@
 -- The leader's coin: the low bit of replica 0's share. Assumes nothing.
 use Rattle.std.specs.Prelude.{◌≡◌, ℕ, ◌+◌, ◌-◌, ◌*◌, ◌%◌, ◌≤◌, Bool, true, length, Some, None, Option, ◌==◌, slice_index_or, slice_set}
 use Rattle.std.specs.Option.{option_map}
-use Rattle.coins.specs.Coins.{Acts}
+use Rattle.coins.specs.Coins.{Acts, Tossed, Sender}
 use Rattle.coin_tests.specs.declared.leader_coin.LeaderCoin.{LeaderCoin}
 
 -- where the share of a sender for a ballot and a round stands
@@ -18,6 +18,7 @@ taken_at c k r j = slice_index_or c.taken (place k r j) None
 pub record Sound (c : LeaderCoin) : Type 0 where
   pub all : length c.taken ≡ 3840
   pub own_to : c.own ≤ 250
+  pub taken_to : (k r j v : ℕ) → Tossed k r → Sender j → taken_at c k r j ≡ Some v → v ≤ 250
 
 abbrev pub leader_acts : Acts LeaderCoin
 leader_acts = record {

@@ -49,6 +49,14 @@ module _ (c : LeaderCoin) (s : Share) (h : Takes leader_acts c s) where
       go true e = here k r j e
       go false e = elsewhere k r j t l e
 
+  -- what is taken stays lawful
+  lawful : (k r j v : ℕ) → Tossed k r → Sender j → taken_at (leader_acts.taken c s) k r j ≡ Some v → v ≤ 250
+  lawful k r j v t l e = go (is_of s k r j) (sym (added k r j t l) ∙ e)
+    where
+      go : (x : Bool) → cond x (Some s.value) (taken_at c k r j) ≡ Some v → v ≤ 250
+      go true f = let q : s.value ≡ v = cc in omega (arith, q, h.lawful.value_to)
+      go false f = h.sound.taken_to k r j v t l f
+
   -- the leader's share is new where it is taken, so a shown bit stays
   stays : (k r : ℕ) → Tossed k r → (b : Bool) → option_map odd (taken_at c k r 0) ≡ Some b → option_map odd (taken_at (leader_acts.taken c s) k r 0) ≡ Some b
   stays k r t b e = go (is_of s k r 0) refl
@@ -63,21 +71,26 @@ module _ (c : LeaderCoin) (s : Share) (h : Takes leader_acts c s) where
   not_shown : (k r : ℕ) → Tossed k r → is_for s k r ≡ false → option_map odd (taken_at (leader_acts.taken c s) k r 0) ≡ option_map odd (taken_at c k r 0)
   not_shown k r t e = ap (option_map odd) (elsewhere k r 0 t (omega arith) (ap (λ (x : Bool). x && s.sender == 0) e))
 
+-- a coin of which nothing is taken
+pub nothing_taken : (own : ℕ) → own ≤ 250 → NewCoin leader_acts (record { own = own; taken = replicate 3840 None })
+nothing_taken own l = record {
+  sound = record { all = length-replicate {0} {A = Option ℕ} 3840 None; own_to = l; taken_to = λ k r j v t u e. absurd (none-some v (sym (none k r j t u) ∙ e)) };
+  none_taken = none;
+}
+  where
+    none : (k r j : ℕ) → Tossed k r → Sender j → get_or {A = Option ℕ} (replicate 3840 None) (place k r j) None ≡ None
+    none k r j t u = get_or-replicate {0} {A = Option ℕ} 3840 (place k r j) None None (within k r j t u)
+
 pub leader_keeps : Keeps leader_acts
 leader_keeps = record {
-  stays_sound = λ c s h. record { all = length-set c.taken _ _ ∙ h.sound.all; own_to = h.sound.own_to };
-  shown_stays = stays;
+  some_new = (record { own = 0; taken = replicate 3840 None }, nothing_taken 0 (omega arith));
+  stays_sound = λ c s h. record { all = length-set c.taken _ _ ∙ h.sound.all; own_to = h.sound.own_to; taken_to = λ k r j v t l e. lawful c s h k r j v t l e };
+  shown_stays = λ c s h b e. stays c s h s.ballot s.round h.lawful.tossed b e;
   shown_elsewhere = not_shown;
   adds_one = added;
+  taken_lawful = λ c h k r j t l v e. h.taken_to k r j v t l e;
   own_fixed = λ c s h k r t. refl;
   own_lawful = λ c h k r t v e. let f : c.own ≡ v = cc in omega (arith, f, h.own_to);
   own_all_or_none = λ c h k r k' r' t t'. refl;
   own_only_used = λ c h k r t e. absurd (let z : ◌≡◌ {A = ℕ} 0 1 = cc in omega arith);
-}
-
--- a coin of which nothing is taken
-pub nothing_taken : (own : ℕ) → own ≤ 250 → NewCoin leader_acts (record { own = own; taken = replicate 3840 None })
-nothing_taken own l = record {
-  sound = record { all = length-replicate {0} {A = Option ℕ} 3840 None; own_to = l };
-  none_taken = λ k r j t u. get_or-replicate {0} {A = Option ℕ} 3840 (place k r j) None None (within k r j t u);
 }

@@ -60,7 +60,8 @@ module _ {C : Type 0} (a : Acts C) where
   abbrev pub take_after : C → Share → C
   take_after c s = left_by (before c s) (a.taken c s) c
 
-  -- The one value that is not settled: what is shown for the ballot and round of a new share.
+  -- The one value that is not settled: what is shown for the ballot and round of a new share. A bit that was shown there
+  -- stays, which is all that is asked of it.
   abbrev pub shown_after : C → Share → Option Bool
   shown_after c s = a.shown (a.taken c s) s.ballot s.round
 
@@ -78,12 +79,15 @@ module _ {C : Type 0} (a : Acts C) where
 
   -- What every coin keeps.
   pub record Keeps : Type 0 where
-    -- of what is shown: bits stay, and only the share's ballot and round may begin to show one
+    -- there is a new coin, so the laws speak of some, and what the calls make of a sound one is sound
+    pub some_new : (c : C) × NewCoin c
     pub stays_sound : (c : C) (s : Share) → Takes c s → a.sound (a.taken c s)
-    pub shown_stays : (c : C) (s : Share) → Takes c s → (k r : ℕ) → Tossed k r → (b : Bool) → a.shown c k r ≡ Some b → a.shown (a.taken c s) k r ≡ Some b
+    -- of what is shown: bits stay, and only the share's ballot and round may begin to show one
+    pub shown_stays : (c : C) (s : Share) → Takes c s → (b : Bool) → a.shown c s.ballot s.round ≡ Some b → shown_after c s ≡ Some b
     pub shown_elsewhere : (c : C) (s : Share) → Takes c s → (k r : ℕ) → Tossed k r → is_for s k r ≡ false → a.shown (a.taken c s) k r ≡ a.shown c k r
-    -- of shares: a new share is the only one added
+    -- of shares: a new share is the only one added, and all that are taken are lawful
     pub adds_one : (c : C) (s : Share) → Takes c s → (k r j : ℕ) → Tossed k r → Sender j → a.taken_of (a.taken c s) k r j ≡ cond (is_for s k r && s.sender == j) (Some s.value) (a.taken_of c k r j)
+    pub taken_lawful : (c : C) → a.sound c → (k r j : ℕ) → Tossed k r → Sender j → (v : ℕ) → a.taken_of c k r j ≡ Some v → v ≤ 250
     -- own shares are fixed and lawful, and there is one for every ballot and round or none at all
     pub own_fixed : (c : C) (s : Share) → Takes c s → (k r : ℕ) → Tossed k r → a.own (a.taken c s) k r ≡ a.own c k r
     pub own_lawful : (c : C) → a.sound c → (k r : ℕ) → Tossed k r → (v : ℕ) → a.own c k r ≡ Some v → v ≤ 250

@@ -1,14 +1,14 @@
 -- The share coin keeps what every coin keeps, and shows what polynomials say. Assumes nothing.
-use Rattle.std.specs.Prelude.{◌≡◌, ℕ, ◌<◌, ◌≤◌, Bool, true, false, cond, ◌&&◌, List, length, get_or, Some, None, Option, ◌==◌, slice_index_or, slice_set, refl}
-use Rattle.std.proofs.Common.{sym, ap, ap₂, ◌∙◌, subst, ⊎_elim, arith, length-set}
+use Rattle.std.specs.Prelude.{◌≡◌, ℕ, ◌<◌, ◌≤◌, Bool, true, false, cond, ◌&&◌, List, length, get_or, replicate, Some, None, Option, ◌==◌, slice_index_or, slice_set, refl}
+use Rattle.std.proofs.Common.{sym, ap, ap₂, ◌∙◌, subst, ⊎_elim, arith, lit<, length-set}
 use Rattle.std.specs.Option.{option_or}
-use Rattle.std.proofs.lemmas.List.{get_or-set_same, get_or-set_other, set-get_or}
+use Rattle.std.proofs.lemmas.List.{get_or-set_same, get_or-set_other, set-get_or, get_or-replicate, length-replicate}
 use Rattle.std.proofs.lemmas.Bool.{and_parts, and_from, eqb-true, eq-eqb, both_ways, cases_eq}
 use Rattle.polynomials.specs.Polynomials.{at}
 use Rattle.coins.specs.declared.share.Share.{Share}
 use Rattle.coins.specs.declared.share_coin.ShareCoin.{ShareCoin}
 use Rattle.coins.specs.declared.toss.Toss.{Toss}
-use Rattle.coins.specs.Coins.{Keeps, Takes, Tossed, is_for, before, left_by, take_after}
+use Rattle.coins.specs.Coins.{Keeps, NewCoin, Takes, Tossed, is_for, before, left_by, take_after}
 use Rattle.coins.specs.Tosses.{blank, taken_from, toss_bit, recorded, toss_taken, toss_new, SoundToss}
 use Rattle.coins.specs.Shared.{place, toss_at, share_acts, Sound, ShowsExactly, MadeOf}
 use Rattle.coins.specs.Tossing.{seat, taken_after, taken_sound, new_sound, new_none, toss_exact}
@@ -45,7 +45,7 @@ module _ (c : ShareCoin) (s : Share) (h : Takes share_acts c s) where
     all = length-set c.tosses _ _ ∙ h.sound.all;
     each = λ i l. ⊎_elim
         (λ e. subst (SoundToss c.member.n c.member.own) (sym (ap (λ (x : ℕ). get_or (share_acts.taken c s).tosses x blank) e ∙ get_or-set_same c.tosses (place s.ballot s.round) _ blank (omega (arith, h.sound.all, within s.ballot s.round h.lawful.tossed))))
-        (taken_sound c.member.n c.member.own (toss_at c s.ballot s.round) s.sender s.value (seat c.member) its h.new))
+        (taken_sound c.member.n c.member.own (toss_at c s.ballot s.round) s.sender s.value (seat c.member) its h.lawful.sender_below h.lawful.value_to h.new))
         (λ ne. subst (SoundToss c.member.n c.member.own) (sym (get_or-set_other c.tosses (place s.ballot s.round) i _ blank ne)) (h.sound.each i l))
         (cases_eq i (place s.ballot s.round));
   }
@@ -71,12 +71,32 @@ module _ (c : ShareCoin) (s : Share) (h : Takes share_acts c s) where
       go true f = ap (λ (t : Toss). t.own) (at_it k r f)
       go false f = ap (λ (t : Toss). t.own) (at_others k r t f)
 
+-- a coin of new tosses
+pub made_of : (c : ShareCoin) (shares : List ℕ) → length c.tosses ≡ 240 → ((i : ℕ) → i < 240 → slice_index_or c.tosses i blank ≡ toss_new (at shares i)) → MadeOf shares c
+made_of c shares all each = record {
+  fresh = record {
+    sound = record { all = all; each = λ i l. subst (SoundToss c.member.n c.member.own) (sym (each i l)) (new_sound c.member.n c.member.own (at shares i) (seat c.member)) };
+    none_taken = λ k r j t l. ap (λ (x : Toss). taken_from x j) (each (place k r) (within k r t)) ∙ new_none (at shares (place k r)) j;
+  };
+  own_is = λ k r t. ap (λ (x : Toss). Some x.own) (each (place k r) (within k r t));
+}
+
+-- a coin at replica 0 of a hall of 4, all its own shares 0
+abbrev a_coin : ShareCoin
+a_coin = record { member = record { n = 4; own = 0; listed = tt; below = lit< tt }; tosses = replicate 240 (toss_new 0) }
+
+a_coin_new : NewCoin share_acts a_coin
+a_coin_new = (made_of a_coin (replicate 240 0) (length-replicate {0} {A = Toss} 240 (toss_new 0)) (λ i l.
+    get_or-replicate {0} {A = Toss} 240 i (toss_new 0) blank l ∙ ap toss_new (sym (get_or-replicate {0} {A = ℕ} 240 i 0 0 l)))).fresh
+
 pub shared_keeps : Keeps share_acts
 shared_keeps = record {
+  some_new = (a_coin, a_coin_new);
   stays_sound = sound_after;
-  shown_stays = stays;
+  shown_stays = λ c s h b e. stays c s h s.ballot s.round h.lawful.tossed b e;
   shown_elsewhere = λ c s h k r t e. ap (λ (t : Toss). t.shown) (at_others c s h k r t e);
   adds_one = λ c s h k r j t l. added c s h k r j t;
+  taken_lawful = λ c h k r j t l v e. (h.each (place k r) (within k r t)).taken_to j v e;
   own_fixed = λ c s h k r t. ap Some (own_stays c s h k r t);
   own_lawful = λ c h k r t v e. lawful c h k r t v e;
   own_all_or_none = λ c h k r k' r' t t'. refl;
@@ -101,16 +121,6 @@ put_back c s i x e h = ap (λ (y : Toss). with_toss i y) h ∙ subst (λ (p : �
     go : (o : Option ℕ) → with_toss (place s.ballot s.round) (left_by o (toss_taken c.member.n c.member.own (toss_at c s.ballot s.round) s.sender s.value) (toss_at c s.ballot s.round)) ≡ left_by o (share_acts.taken c s) c
     go None = refl
     go (Some w) = ap (λ (ts : List Toss). record { member = c.member; tosses = ts }) (set-get_or c.tosses (place s.ballot s.round) blank)
-
--- a coin of new tosses
-pub made_of : (c : ShareCoin) (shares : List ℕ) → length c.tosses ≡ 240 → ((i : ℕ) → i < 240 → slice_index_or c.tosses i blank ≡ toss_new (at shares i)) → MadeOf shares c
-made_of c shares all each = record {
-  fresh = record {
-    sound = record { all = all; each = λ i l. subst (SoundToss c.member.n c.member.own) (sym (each i l)) (new_sound c.member.n c.member.own (at shares i) (seat c.member)) };
-    none_taken = λ k r j t l. ap (λ (x : Toss). taken_from x j) (each (place k r) (within k r t)) ∙ new_none (at shares (place k r)) j;
-  };
-  own_is = λ k r t. ap (λ (x : Toss). Some x.own) (each (place k r) (within k r t));
-}
 
 -- what a sound coin shows, in words
 pub shows_exactly : (c : ShareCoin) (k r : ℕ) → Tossed k r → Sound c → ShowsExactly c k r (toss_at c k r).shown

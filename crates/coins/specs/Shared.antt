@@ -48,6 +48,10 @@ held_share c k r j = cond (j == c.member.own) (toss_at c k r).own (unwrap_or (sh
 abbrev pub ShowsExactly : ShareCoin → ℕ → ℕ → Option Bool → Type 0
 ShowsExactly c k r shown = Exact c.member.n (holds c k r) (held_share c k r) shown
 
+-- Every coin that the calls make of a new one shows exactly that, for each ballot and round.
+abbrev pub ShownExactly : Type 0
+ShownExactly = (c : ShareCoin) (k r : ℕ) → Tossed k r → Sound c → ShowsExactly c k r (share_acts.shown c k r)
+
 -- the answer of making a coin, its numbers for the coin
 abbrev pub coin_told : Result ShareCoin Refusal → Result Numbers Refused
 coin_told (Ok c) = Ok (record { n = c.member.n; own = c.member.own })

@@ -18,11 +18,11 @@ toss_new share = record { taken = 0; shares = replicate 16 0; own = share % 251;
 abbrev pub taken_from : Toss → ℕ → Option ℕ
 taken_from t j = cond (has t.taken j) (Some (at t.shares j)) None
 
--- The held shares: the own one, at the own point whatever is taken there, and those taken of others.
+-- whose shares are held: the own one, and those taken
 abbrev pub held_of : ℕ → Toss → ℕ
 held_of own t = bit_or t.taken (2 ^ own)
 
--- the own share stands at the own point
+-- the shares that are held: at the own point stands the own one, whatever is taken there
 abbrev pub shares_of : ℕ → Toss → ℕ → ℕ
 shares_of own t = at (slice_set t.shares own t.own)
 
@@ -40,8 +40,9 @@ looked n own t = record { taken = t.taken; shares = t.shares; own = t.own; shown
 abbrev pub toss_taken : ℕ → ℕ → Toss → ℕ → ℕ → Toss
 toss_taken n own t j v = looked n own (recorded t j v)
 
--- what holds of every toss that the calls make: what it shows is what its held shares show
+-- what holds of every toss that the calls make: its shares are lawful, and it shows what the held ones show
 pub record SoundToss (n own : ℕ) (t : Toss) : Type 0 where
   pub places : length t.shares ≡ 16
   pub own_to : t.own ≤ 250
+  pub taken_to : (j v : ℕ) → taken_from t j ≡ Some v → v ≤ 250
   pub right : t.shown ≡ toss_bit n own t

@@ -4,6 +4,7 @@ use Rattle.std.proofs.Common.{sym, ap, ◌∙◌, subst, ⊎_elim, arith, length
 use Rattle.std.specs.Int.Bits.{or_zero_l}
 use Rattle.std.specs.Option.{option_or, unwrap_or}
 use Rattle.std.proofs.lemmas.List.{get_or-set_same, get_or-set_other}
+use Rattle.std.proofs.lemmas.Option.{none-some}
 use Rattle.std.proofs.lemmas.Bool.{and_parts, eqb-true, eq-eqb, ne_eqb, or_cases, or_left, or_right, both_ways, cases_eq, cond-true, cond-false}
 use Rattle.std.proofs.lemmas.Bool.Decides.{nat_tests}
 use Rattle.std.proofs.Math.Bool.{or-false}
@@ -17,7 +18,7 @@ use Rattle.polynomials.proofs.Choosing.{bit_stays, exact_same, few_show_none, sh
 use Rattle.coins.specs.declared.toss.Toss.{Toss}
 use Rattle.coins.specs.Tosses.{toss_new, taken_from, held_of, shares_of, toss_bit, recorded, toss_taken, SoundToss}
 
--- a listed hall has 3f + 1 replicas, with f from 1 on
+-- a replica's place in a hall of 3f + 1, f from 1 on: its number is below n
 pub record Seat (n own : ℕ) : Type 0 where
   pub hall : Hall n
   pub some : 1 ≤ faults n
@@ -92,13 +93,18 @@ held_stay own t i v len lt new j h = (stays, shares (cases_eq j own))
         w
 
 -- taking a new share keeps a toss sound
-pub taken_sound : (n own : ℕ) (t : Toss) (i v : ℕ) → Seat n own → SoundToss n own t → taken_from t i ≡ None → SoundToss n own (toss_taken n own t i v)
-taken_sound n own t i v s h new = record {
+pub taken_sound : (n own : ℕ) (t : Toss) (i v : ℕ) → Seat n own → SoundToss n own t → i < 16 → v ≤ 250 → taken_from t i ≡ None → SoundToss n own (toss_taken n own t i v)
+taken_sound n own t i v s h low to new = record {
   places = length-set t.shares i v ∙ h.places;
   own_to = h.own_to;
+  taken_to = λ j w e. lawful (i == j) j w (sym (taken_after t i v j (omega (arith, h.places, low))) ∙ e);
   right = go t.shown refl;
 }
   where
+    lawful : (b : Bool) (j w : ℕ) → cond b (Some v) (taken_from t j) ≡ Some w → w ≤ 250
+    lawful true j w e = let f : v ≡ w = cc in omega (arith, f, to)
+    lawful false j w e = h.taken_to j w e
+
     absent : (b : Bool) → has t.taken i ≡ b → cond b (Some (at t.shares i)) None ≡ None → has t.taken i ≡ false
     absent false e k = e
     absent true e k = absurd (let z : ◌≡◌ {A = ℕ} 0 1 = cc in omega arith)
@@ -116,11 +122,15 @@ unfolding count
 one_alike zero i = grind (arith, nat_tests)
 one_alike (suc n) i = let h = one_alike n i in grind (arith, nat_tests)
 
+pub new_none : (share j : ℕ) → taken_from (toss_new share) j ≡ None
+new_none share j = cond-false (has 0 j) _ _ (has_none j)
+
 -- the own share alone shows nothing
 pub new_sound : (n own share : ℕ) → Seat n own → SoundToss n own (toss_new share)
 new_sound n own share s = record {
   places = refl;
   own_to = omega arith;
+  taken_to = λ j v e. absurd (none-some v (sym (new_none share j) ∙ e));
   right = sym (few_show_none n (held_of own (toss_new share)) (shares_of own (toss_new share)) s.hall few);
 }
   where
@@ -129,9 +139,6 @@ new_sound n own share s = record {
         let c = count_cong n (has (held_of own (toss_new share))) (λ j. eqb j own) (λ j. ap (λ (x : ℕ). has x j) (or_zero_l (2 ^ own)) ∙ has_one own j) ∙ one_alike n own in
         let l : cond (nat_lt own n) 1 0 ≤ 1 = elim (nat_lt own n) as (λ b. cond {A = ℕ} b 1 0 ≤ 1) [ true ↦ omega arith | false ↦ omega arith ] in
         omega (arith, c, l, s.some)
-
-pub new_none : (share j : ℕ) → taken_from (toss_new share) j ≡ None
-new_none share j = cond-false (has 0 j) _ _ (has_none j)
 
 -- what a sound toss shows, in words
 pub toss_exact : (n own : ℕ) (t : Toss) → Seat n own → SoundToss n own t

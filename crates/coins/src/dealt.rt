@@ -1,8 +1,7 @@
 // The dealt coin: one number for each ballot, and no shares.
 ghost use Rattle.std.specs.Prelude.{◌≡◌, replicate};
 ghost use Rattle.coins.specs.Coins.{NewCoin};
-ghost use Rattle.coins.specs.Dealt.{dealt_acts, dealt_bit_lem};
-ghost use Rattle.std.proofs.Common.{rules};
+ghost use Rattle.coins.specs.Dealt.{dealt_acts, dealt_bit_lem, dealt_keeps};
 
 use crate::coin::Coin;
 use crate::share::Share;
@@ -45,7 +44,7 @@ impl DealtCoin {
 impl Coin for DealtCoin {
     ghost acts = { dealt_acts };
 
-    ghost keeps = { Prim.search rules };
+    ghost keeps = { dealt_keeps };
 
     fn uses_shares() -> bool {
         false

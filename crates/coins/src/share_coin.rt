@@ -1,7 +1,7 @@
 // The share coin: it shows the low bit of the value at 0 of a polynomial that enough held shares lie on.
 ghost use Rattle.std.specs.Prelude.{◌≡◌, ◌<◌, IfOk};
 ghost use Rattle.basis.specs.Members.{member_made};
-ghost use Rattle.coins.specs.Shared.{place, toss_at, share_acts, Sound, ShowsExactly, coin_told, MadeOf};
+ghost use Rattle.coins.specs.Shared.{place, toss_at, share_acts, Sound, ShowsExactly, ShownExactly, coin_told, MadeOf};
 ghost use Rattle.coins.specs.Keeping.{shared_keeps};
 
 use crate::coin::Coin;
@@ -36,6 +36,7 @@ impl ShareCoin {
     pub fn new(n: u8, own: u8, shares: &[u8; TOSSES]) -> Result<ShareCoin, Refusal>
         ensures answer { coin_told result ≡ member_made n own }
         ensures coin { IfOk result (λ c. MadeOf shares.now c) }
+        ensures exact { ShownExactly }
     {
         let member = Member::new(n, own)?;
         let tosses = shares.map(Toss::new);

@@ -11,8 +11,8 @@ use basis::refusal::Reason;
 use basis::replicas::{ReplicaSet, contains, with};
 use polynomials::search::shown_bit;
 
-// The senders whose shares are taken, these shares, the own share, and the bit that is shown. The senders are a mask by
-// a rule of the project, as all sets of replicas are: the search counts its ones, and reads the shares beside it.
+// The senders whose shares are taken, these shares, the own share, and the bit that is shown. The senders are a mask, as
+// the specification fixes it for all sets of replicas: the search counts its ones, and reads the shares beside it.
 #[derive(Clone, Copy)]
 pub struct Toss {
     pub taken: ReplicaSet,

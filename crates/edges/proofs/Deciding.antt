@@ -54,7 +54,7 @@ module _ {C : Type 0} (b : Coin-acts C) (c : C) where
   one_more false = refl
 
   -- those of two others decide 1
-  two_more : (third : Bool) → seen_in (swept third b (with_opening (says 33 2 2 (says 33 2 1 one)) unopened) (waiting (says 33 2 1 one) c)) ≡ record { decided = 2; entered = 2; first = true; second = true }
+  two_more : (third : Bool) → seen_in (swept third b (with_opening (says 33 2 2 (says 33 2 1 one)) unopened) (waiting (says 33 2 1 one) c)) ≡ record { decided = 2; entered = 2; first_zero = false; first_one = true; second_zero = false; second_one = true }
   unfolding count settled admitted enough union admits ready_to_leave tally later_settled
   two_more true = refl
   two_more false = refl
@@ -72,7 +72,7 @@ module _ {C : Type 0} (b : Coin-acts C) (c : C) where
   one_first false = refl
 
   -- those of two others are joined
-  two_firsts : (third : Bool) → seen_in (swept third b (with_opening (says 32 2 2 (says 32 2 1 none)) unopened) (waiting (says 32 2 1 none) c)) ≡ record { decided = 0; entered = 0; first = true; second = true }
+  two_firsts : (third : Bool) → seen_in (swept third b (with_opening (says 32 2 2 (says 32 2 1 none)) unopened) (waiting (says 32 2 1 none) c)) ≡ record { decided = 0; entered = 0; first_zero = true; first_one = true; second_zero = false; second_one = true }
   unfolding count settled admitted enough union admits ready_to_leave tally later_settled
   two_firsts true = refl
   two_firsts false = refl
@@ -95,26 +95,27 @@ bit_back (Some false) (Some true) e = absurd (omega (arith, e))
 
 back : (x y : Standing) → seen_of x ≡ seen_of y → x ≡ y
 back x y e =
-    ap₂ (λ (d e : Option Bool). record { decided = d; entered = e; first = x.first; second = x.second }) (bit_back x.decided y.decided (ap (λ (s : Seen). s.decided) e)) (bit_back x.entered y.entered (ap (λ (s : Seen). s.entered) e))
-    ∙ ap₂ (λ (f g : Bool). record { decided = y.decided; entered = y.entered; first = f; second = g }) (ap (λ (s : Seen). s.first) e) (ap (λ (s : Seen). s.second) e)
+    ap₂ (λ (d e : Option Bool). record { decided = d; entered = e; first_zero = x.first_zero; first_one = x.first_one; second_zero = x.second_zero; second_one = x.second_one }) (bit_back x.decided y.decided (ap (λ (s : Seen). s.decided) e)) (bit_back x.entered y.entered (ap (λ (s : Seen). s.entered) e))
+    ∙ ap₂ (λ (f g : Bool). record { decided = y.decided; entered = y.entered; first_zero = f; first_one = g; second_zero = x.second_zero; second_one = x.second_one }) (ap (λ (s : Seen). s.first_zero) e) (ap (λ (s : Seen). s.first_one) e)
+    ∙ ap₂ (λ (f g : Bool). record { decided = y.decided; entered = y.entered; first_zero = y.first_zero; first_one = y.first_one; second_zero = f; second_one = g }) (ap (λ (s : Seen). s.second_zero) e) (ap (λ (s : Seen). s.second_one) e)
 
 module _ {C : Type 0} (third : Bool) (b : Coin-acts C) (c : C) (x : Standing) (s p q : BallotState C) (e : s ≡ start c) where
   -- replica 0 proposed 1, and hears second votes 1 of replicas 1 and 2
   hears_one : p ≡ proposed third b 2 s → q ≡ heard third b 33 1 p → q ≡ waiting (says 33 2 1 one) c
   hears_one f g = g ∙ ap (heard third b 33 1) (f ∙ ap (proposed third b 2) e ∙ by_sweep third b _ (start c) ∙ one_waits b c third) ∙ by_sweep third b _ (waiting one c) ∙ one_more b c third
 
-  pub undecided_by_two : p ≡ proposed third b 2 s → q ≡ heard third b 33 1 p → seen_of x ≡ seen_in q → x ≡ record { decided = None; entered = None; first = true; second = true }
+  pub undecided_by_two : p ≡ proposed third b 2 s → q ≡ heard third b 33 1 p → seen_of x ≡ seen_in q → x ≡ record { decided = None; entered = None; first_zero = false; first_one = true; second_zero = false; second_one = true }
   undecided_by_two f g h = back x _ (h ∙ ap seen_in (hears_one f g))
 
-  pub decided_by_three : (r : BallotState C) → p ≡ proposed third b 2 s → q ≡ heard third b 33 1 p → r ≡ heard third b 33 2 q → seen_of x ≡ seen_in r → x ≡ record { decided = Some true; entered = Some true; first = true; second = true }
+  pub decided_by_three : (r : BallotState C) → p ≡ proposed third b 2 s → q ≡ heard third b 33 1 p → r ≡ heard third b 33 2 q → seen_of x ≡ seen_in r → x ≡ record { decided = Some true; entered = Some true; first_zero = false; first_one = true; second_zero = false; second_one = true }
   decided_by_three r f g k h = back x _ (h ∙ ap seen_in (k ∙ ap (heard third b 33 2) (hears_one f g) ∙ by_sweep third b _ (waiting (says 33 2 1 one) c)) ∙ two_more b c third)
 
   -- replica 0 proposed 0, and hears first votes 1 of replicas 1 and 2
   hears_first : p ≡ proposed third b 1 s → q ≡ heard third b 32 1 p → q ≡ waiting (says 32 2 1 none) c
   hears_first f g = g ∙ ap (heard third b 32 1) (f ∙ ap (proposed third b 1) e ∙ by_sweep third b _ (start c) ∙ none_waits b c third) ∙ by_sweep third b _ (waiting none c) ∙ one_first b c third
 
-  pub silent_by_one : p ≡ proposed third b 1 s → q ≡ heard third b 32 1 p → seen_of x ≡ seen_in q → x ≡ record { decided = None; entered = None; first = false; second = false }
+  pub silent_by_one : p ≡ proposed third b 1 s → q ≡ heard third b 32 1 p → seen_of x ≡ seen_in q → x ≡ record { decided = None; entered = None; first_zero = true; first_one = false; second_zero = false; second_one = false }
   silent_by_one f g h = back x _ (h ∙ ap seen_in (hears_first f g))
 
-  pub joined_by_two : (r : BallotState C) → p ≡ proposed third b 1 s → q ≡ heard third b 32 1 p → r ≡ heard third b 32 2 q → seen_of x ≡ seen_in r → x ≡ record { decided = None; entered = None; first = true; second = true }
+  pub joined_by_two : (r : BallotState C) → p ≡ proposed third b 1 s → q ≡ heard third b 32 1 p → r ≡ heard third b 32 2 q → seen_of x ≡ seen_in r → x ≡ record { decided = None; entered = None; first_zero = true; first_one = true; second_zero = false; second_one = true }
   joined_by_two r f g k h = back x _ (h ∙ ap seen_in (k ∙ ap (heard third b 32 2) (hears_first f g) ∙ by_sweep third b _ (waiting (says 32 2 1 none) c)) ∙ two_firsts b c third)

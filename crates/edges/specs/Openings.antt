@@ -30,19 +30,21 @@ module _ {C : Type 0} (third : Bool) (b : Coin-acts C) where
   heard t j s = taken (with_opening (hears (record { tag = t; set = 2; sender = j }) s.ballot.opening) s.ballot) s
 
 -- what is told of a ballot: the sets of the decided bit and of the bit with which round 1 was entered, and whether the
--- replica has said first vote 1 and second vote 1 of round 0
+-- replica has said first vote 0, first vote 1, second vote 0 and second vote 1 of round 0
 pub record Seen : Type 0 where
   pub decided : ℕ
   pub entered : ℕ
-  pub first : Bool
-  pub second : Bool
+  pub first_zero : Bool
+  pub first_one : Bool
+  pub second_zero : Bool
+  pub second_one : Bool
 
 abbrev pub seen : Opened → List Round → Seen
-seen o ms = record { decided = o.decided; entered = (slice_index_or ms 0 cleared).entered; first = o.opening.votes 32 2 0; second = o.opening.votes 33 2 0 }
+seen o ms = record { decided = o.decided; entered = (slice_index_or ms 0 cleared).entered; first_zero = o.opening.votes 32 1 0; first_one = o.opening.votes 32 2 0; second_zero = o.opening.votes 33 1 0; second_one = o.opening.votes 33 2 0 }
 
 abbrev pub seen_in : {C : Type 0} → BallotState C → Seen
 seen_in s = seen s.ballot s.rounds
 
 -- the same of what a function answers
 abbrev pub seen_of : Standing → Seen
-seen_of x = record { decided = bit_if_any x.decided; entered = bit_if_any x.entered; first = x.first; second = x.second }
+seen_of x = record { decided = bit_if_any x.decided; entered = bit_if_any x.entered; first_zero = x.first_zero; first_one = x.first_one; second_zero = x.second_zero; second_one = x.second_one }

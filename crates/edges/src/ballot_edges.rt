@@ -17,14 +17,16 @@ use phases::round::PhasedRound;
 use phases::vote_phase::VotePhase;
 use rules::cast_vote::CastVote;
 
-// What has come of a ballot: the decided bit, the bit with which round 1 was entered, and whether the replica has said
-// first vote 1 and second vote 1 of round 0.
+// What has come of a ballot: the decided bit, the bit with which round 1 was entered, and which first and second votes of
+// round 0 the replica has said.
 #[derive(Clone, Copy, PartialEq, Eq, Debug)]
 pub struct Standing {
     pub decided: Option<bool>,
     pub entered: Option<bool>,
-    pub first: bool,
-    pub second: bool,
+    pub first_zero: bool,
+    pub first_one: bool,
+    pub second_zero: bool,
+    pub second_one: bool,
 }
 
 // Replica 0 of four proposes a bit in ballot 0 and takes its steps.
@@ -73,15 +75,17 @@ impl Standing {
         Standing {
             decided: ballot.decided,
             entered: rounds[0].entered,
-            first: ballot.opening.has_vote(VotePhase::First, BitSet::One, 0),
-            second: ballot.opening.has_vote(VotePhase::Second, BitSet::One, 0),
+            first_zero: ballot.opening.has_vote(VotePhase::First, BitSet::Zero, 0),
+            first_one: ballot.opening.has_vote(VotePhase::First, BitSet::One, 0),
+            second_zero: ballot.opening.has_vote(VotePhase::Second, BitSet::Zero, 0),
+            second_one: ballot.opening.has_vote(VotePhase::Second, BitSet::One, 0),
         }
     }
 }
 
 // It proposed 1, and hears a second vote 1 of one other: nothing is decided.
 pub fn proposed_one_hears_one<const THIRD: bool, C: Coin>(coin: &mut C) -> Standing
-    ensures { result ≡ record { decided = None; entered = None; first = true; second = true } }
+    ensures { result ≡ record { decided = None; entered = None; first_zero = false; first_one = true; second_zero = false; second_one = true } }
 {
     let mut ballot = Ballot::unopened();
     let mut rounds = [PhasedRound::default(); 15];
@@ -92,7 +96,7 @@ pub fn proposed_one_hears_one<const THIRD: bool, C: Coin>(coin: &mut C) -> Stand
 
 // It proposed 1, and hears second votes 1 of two others: it decides 1, and enters round 1 with 1.
 pub fn proposed_one_hears_two<const THIRD: bool, C: Coin>(coin: &mut C) -> Standing
-    ensures { result ≡ record { decided = Some true; entered = Some true; first = true; second = true } }
+    ensures { result ≡ record { decided = Some true; entered = Some true; first_zero = false; first_one = true; second_zero = false; second_one = true } }
 {
     let mut ballot = Ballot::unopened();
     let mut rounds = [PhasedRound::default(); 15];
@@ -102,9 +106,9 @@ pub fn proposed_one_hears_two<const THIRD: bool, C: Coin>(coin: &mut C) -> Stand
     Standing::of(&ballot, &rounds)
 }
 
-// It proposed 0, and hears a first vote 1 of one other: it says no vote for 1.
+// It proposed 0, and hears a first vote 1 of one other: it says nothing besides first vote 0, by proposing.
 pub fn proposed_zero_hears_one<const THIRD: bool, C: Coin>(coin: &mut C) -> Standing
-    ensures { result ≡ record { decided = None; entered = None; first = false; second = false } }
+    ensures { result ≡ record { decided = None; entered = None; first_zero = true; first_one = false; second_zero = false; second_one = false } }
 {
     let mut ballot = Ballot::unopened();
     let mut rounds = [PhasedRound::default(); 15];
@@ -115,7 +119,7 @@ pub fn proposed_zero_hears_one<const THIRD: bool, C: Coin>(coin: &mut C) -> Stan
 
 // It proposed 0, and hears first votes 1 of two others: it says first vote 1 and second vote 1.
 pub fn proposed_zero_hears_two<const THIRD: bool, C: Coin>(coin: &mut C) -> Standing
-    ensures { result ≡ record { decided = None; entered = None; first = true; second = true } }
+    ensures { result ≡ record { decided = None; entered = None; first_zero = true; first_one = true; second_zero = false; second_one = true } }
 {
     let mut ballot = Ballot::unopened();
     let mut rounds = [PhasedRound::default(); 15];

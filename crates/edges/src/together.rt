@@ -61,10 +61,10 @@ pub fn edges_of_four<const THIRD: bool, C: Coin>(
     ensures surplus { plain result.surplus ≡ refused 6 6 }
     ensures third { plain result.third ≡ refused 10 4 }
     ensures unused { plain result.unused ≡ refused 7 0 }
-    ensures one_of_one { result.one_of_one ≡ record { decided = None; entered = None; first = true; second = true } }
-    ensures two_of_one { result.two_of_one ≡ record { decided = Some true; entered = Some true; first = true; second = true } }
-    ensures one_of_zero { result.one_of_zero ≡ record { decided = None; entered = None; first = false; second = false } }
-    ensures two_of_zero { result.two_of_zero ≡ record { decided = None; entered = None; first = true; second = true } }
+    ensures one_of_one { result.one_of_one ≡ record { decided = None; entered = None; first_zero = false; first_one = true; second_zero = false; second_one = true } }
+    ensures two_of_one { result.two_of_one ≡ record { decided = Some true; entered = Some true; first_zero = false; first_one = true; second_zero = false; second_one = true } }
+    ensures one_of_zero { result.one_of_zero ≡ record { decided = None; entered = None; first_zero = true; first_one = false; second_zero = false; second_one = false } }
+    ensures two_of_zero { result.two_of_zero ≡ record { decided = None; entered = None; first_zero = true; first_one = true; second_zero = false; second_one = true } }
     ensures four_shares { result.four_shares ≡ Ok (Some true) }
     ensures three_shares { result.three_shares ≡ Ok None }
 {

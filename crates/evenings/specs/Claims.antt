@@ -1,30 +1,37 @@
 -- What holds of every evening: agreement, enough sheets, and that nobody waits at rest. Assumes nothing.
-use Rattle.std.specs.Prelude.{◌≡◌, ℕ, ◌+◌, ◌<◌, ◌≤◌, Bool, true, not, T, ◌⊎◌, List, Some, Ok, Err, Result, ◌≢◌}
+use Rattle.std.specs.Prelude.{◌≡◌, ℕ, ◌+◌, ◌*◌, ◌<◌, ◌≤◌, Bool, true, not, T, ◌⊎◌, List, length, Some, Ok, Err, Result, ◌≢◌}
 use Rattle.basis.specs.Counts.{count}
 use Rattle.basis.specs.Halls.{listed, faults}
 use Rattle.basis.specs.declared.heard.Heard.TheVariants.{Known}
+use Rattle.ballots.specs.States.{round_at}
 use Rattle.broadcast.specs.Claims.{RowLaws}
 use Rattle.coins.specs.Coins.{Keeps as CoinKeeps}
-use Rattle.outcomes.specs.Calls.{HasOffered, Said, look_after}
+use Rattle.outcomes.specs.Calls.{HasOffered, HasSaid, Said, look_after}
 use Rattle.outcomes.specs.Closing.{Entry, ClosingView, closing_view, close_answer, list_answer, closing_record, listed_sheet, sheets_listed}
 use Rattle.basis.specs.Refusals.{Refused}
 use Rattle.outcomes.specs.Hearing.{hear_answer_lem}
-use Rattle.outcomes.specs.Holdings.{Closed, Setting, ballot_at}
+use Rattle.outcomes.specs.Holdings.{Closed, Setting, ballot_at, state_of}
+use Rattle.messages.specs.declared.message.Message.TheVariants.{Share}
 use Rattle.messages.specs.Tags.{uses}
 use Rattle.rules.specs.Laws.{Acts, Reached, EndsRounds, Keeps}
 use Rattle.rules.specs.Rounds.{Round}
-use Rattle.evenings.specs.Evenings.{Replica, held, Leads, Offers, Evening}
+use Rattle.evenings.specs.Evenings.{Replica, Hall as HallOf, Honest as HonestOf, held, Leads, Offers, Evening}
 
 module _ {R C Row : Type 0} (g : Setting R C) (meaning : Row → Round) (n : ℕ) (honest : ℕ → Bool) where
+  -- a hall of such replicas, and one of them that is not faulty, as evenings have them
   abbrev pub Hall : Type 0
-  Hall = ℕ → Replica R C Row
+  Hall = HallOf g meaning n honest
 
   abbrev pub Honest : ℕ → Type 0
-  Honest i = (i < n) × (honest i ≡ true)
+  Honest i = HonestOf g meaning n honest i
 
   -- the bit decided in ballot k, as a set: 0 none, 1 is {0}, 2 is {1}
   abbrev pub decided : Hall → ℕ → ℕ → ℕ
   decided s i k = (ballot_at k (held meaning (s i))).decided
+
+  -- what round r of ballot k means at replica i
+  abbrev pub round_of : Hall → ℕ → ℕ → ℕ → Round
+  round_of s i k r = round_at k r (state_of k (held meaning (s i)))
 
   -- what close, list and record answer at replica i: the entry at an index, the bytes of the record, whether it can close
   abbrev pub viewed_at : Hall → ℕ → ClosingView R
@@ -55,12 +62,19 @@ module _ {R C Row : Type 0} (g : Setting R C) (meaning : Row → Round) (n : ℕ
     pub same_records : (i j : ℕ) → Honest i → Honest j → has_closed s i → has_closed s' j → record_of s i ≡ record_of s' j
     -- what an honest replica has said no other refuses, so none accuses another of contradiction
     pub no_accusation : (i j : ℕ) (xs : List ℕ) (e : Refused) → Honest i → Honest j → (j ≢ i) → Said g n j (held meaning (s j)) xs → hear_answer_lem g n i j xs (held meaning (s' i)) ≢ Err e
+    -- an honest replica's coin is sound, as what say tells asks
+    pub coins_sound : (i : ℕ) → Honest i → g.coins.sound (s' i).coin
 
   -- The closing record of an honest replica, the one that is defined even where no output was long enough.
   pub record EnoughSheets (s : Hall) (e : Evening g meaning n honest s) : Type 0 where
     pub many : (i : ℕ) → Honest i → has_closed s i → faults n + 2 ≤ sheets_listed g.rows n (viewed_at s i)
+    -- so list answers so many indices with an entry, and the record has the bytes of so many fields
+    pub entries : (i index : ℕ) → Honest i → has_closed s i → index < faults n + 2 → (x : Entry) × (listed_at s i index ≡ Ok x)
+    pub bytes : (i : ℕ) → Honest i → has_closed s i → 7 + (g.size + 4) * (faults n + 2) ≤ length (record_of s i)
     -- where it holds the sheet of an honest replica, that is the one which this replica was called to offer
     pub as_offered : (i k : ℕ) (x : List ℕ) → Honest i → Honest k → has_closed s i → listed_sheet g.rows n (viewed_at s i) k ≡ Some x → Offers g meaning n honest e.calls k x
+    -- and it was called to offer no other sheet
+    pub offered_once : (k : ℕ) (x y : List ℕ) → Honest k → Offers g meaning n honest e.calls k x → Offers g meaning n honest e.calls k y → x ≡ y
 
   -- All honest replicas have offered, each has heard, unrefused, what the other honest ones said, and looking changes
   -- nothing at any of them.
@@ -84,6 +98,9 @@ module _ {R C Row : Type 0} (g : Setting R C) (meaning : Row → Round) (n : ℕ
   pub record NobodyWaits (s : Hall) : Type 0 where
     -- all rounds before a ballot's first unknown coin are over, all sixteen where there is none
     pub rounds_over : (k u : ℕ) → k < n → u ≤ 16 → Shown s k u → (i r : ℕ) → Honest i → r < u → Over s i k r
+    -- in each later round that is entered and has its verdict the own share is said, where the coin uses shares and has it
+    pub shares_said : (i k r v : ℕ) → Honest i → k < n → 1 ≤ r → r ≤ 15 → 0 < (round_of s i k r).entered → 0 < (round_of s i k r).verdict →
+        g.coins.uses ≡ true → g.coins.own (s i).coin k r ≡ Some v → HasSaid g n i (held meaning (s i)) (Share k r v)
     pub can_close : (i : ℕ) → Honest i → ((k : ℕ) → k < n → 0 < decided s i k) → CanClose s i
 
 -- what the claims ask: that the kind of sheet, the coin and the rule keep their laws

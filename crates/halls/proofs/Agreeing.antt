@@ -1,50 +1,33 @@
 -- The closing records of a hall are alike, and stay. Assumes nothing.
-use Rattle.std.proofs.Common.{◌≡◌, ℕ, zero, suc, ◌<◌, ◌≤◌, T, true, Bool, not, List, Some, sym, refl, ap, ◌∙◌, subst, get_or, arith, rules}
+use Rattle.std.proofs.Common.{◌≡◌, ℕ, zero, suc, ◌<◌, ◌≤◌, T, true, Bool, not, List, Some, sym, refl, ap, ◌∙◌, subst, get_or, arith}
 use Rattle.std.proofs.Math.Logic.{∥∥₁_elim}
 use Rattle.std.proofs.Props.{props}
 use Rattle.basis.specs.Counts.{count}
 use Rattle.basis.specs.Halls.{listed, faults}
-use Rattle.broadcast.specs.Claims.{RowLaws}
 use Rattle.basis.proofs.Thirds.{at_most_16}
-use Rattle.coins.specs.Coins.{Tossed, Keeps as CoinKeeps}
+use Rattle.coins.specs.Coins.{Tossed}
 use Rattle.coins.specs.Dealt.{dealt_acts, dealt_bit_lem}
 use Rattle.coins.specs.declared.dealt.DealtCoin.{DealtCoin}
 use Rattle.claims.proofs.Calling.{turned_by, leads_after, whole_begun, evening_whole}
 use Rattle.claims.proofs.Filling.{evenings_agree}
 use Rattle.claims.proofs.Halls.{at_upd, Whole}
-use Rattle.evenings.specs.Claims.{Lawful, CoinsAgree, Agreement}
+use Rattle.evenings.specs.Claims.{CoinsAgree, Agreement}
 use Rattle.evenings.specs.Evenings.{Replica, Leads, nothing, called}
 use Rattle.outcomes.specs.Closing.{closing_view, closing_record}
 use Rattle.outcomes.specs.Holdings.{Closed as IsClosed}
-use Rattle.phases.specs.Keeping.{either_keeps}
 use Rattle.phases.specs.Records.{meaning_of}
 use Rattle.phases.specs.declared.round.PhasedRound.{PhasedRound}
 use Rattle.scripts.specs.declared.command.RuleName.{RuleName}
-use Rattle.sheets.specs.OfTakings.{takings_rows, takings_lawful}
-use Rattle.sheets.specs.OfTakingsLemmas.{held_row, kept_of}
+use Rattle.sheets.specs.OfTakings.{takings_rows}
 use Rattle.sheets.specs.declared.kinds.TakingsRow.{TakingsRow}
-use Rattle.halls.specs.States.{Held, setting_of, life_of, is_three, is_closed}
+use Rattle.halls.specs.States.{Held, setting_of, life_of, is_closed}
 use Rattle.halls.specs.Plays.{all_honest, Replicas, Shows, Played, GoesOn, Alike, RecordsStay}
 use Rattle.halls.specs.declared.state.Active.TheVariants.{Running, Closed}
 use Rattle.halls.specs.declared.state.State.{State}
 use Rattle.halls.specs.declared.state.State.TheVariants as state
 use Rattle.halls.specs.declared.till.Till.{Till}
 use Rattle.halls.proofs.Playing.{leads_then, same_some}
-
-takings_laws : RowLaws takings_rows 12 takings_lawful
-takings_laws = record {
-  short = search rules;
-  sized = λ s h. Rattle.std.proofs.lemmas.Bool.eqb-true _ _ (Rattle.std.proofs.lemmas.Bool.and_parts _ _ h).0;
-  restored = λ s h l. held_row s h l;
-  kept = λ r s e. kept_of r s e;
-}
-
-dealt_keeps : CoinKeeps dealt_acts
-dealt_keeps = search rules
-
--- takings, either rule and the dealt coin keep their laws
-pub lawful_setting : (rule : RuleName) → Lawful (setting_of rule)
-lawful_setting rule = record { rows = takings_laws; rule = either_keeps (is_three rule); coins = dealt_keeps }
+use Rattle.halls.proofs.Settings.{lawful_setting}
 
 no_faulty : (n : ℕ) → count n (λ j. not (all_honest j)) ≡ 0
 unfolding count
@@ -57,14 +40,14 @@ closed_life (state.Active (Running r)) e = absurd (let z : ◌≡◌ {A = ℕ} 0
 closed_life (state.Active (Closed c)) e = refl
 closed_life state.Gone e = absurd (let z : ◌≡◌ {A = ℕ} 0 1 = cc in omega arith)
 
-life_closed : (st : State) → life_of st ≡ IsClosed → is_closed st ≡ true
+pub life_closed : (st : State) → life_of st ≡ IsClosed → is_closed st ≡ true
 life_closed (state.Fresh f) e = absurd (let z : ◌≡◌ {A = ℕ} 0 1 = cc in omega arith)
 life_closed (state.Active (Running r)) e = absurd (let z : ◌≡◌ {A = ℕ} 0 1 = cc in omega arith)
 life_closed (state.Active (Closed c)) e = refl
 life_closed state.Gone e = absurd (let z : ◌≡◌ {A = ℕ} 0 1 = cc in omega arith)
 
 module _ (rule : RuleName) (n : ℕ) (li : T (listed n)) where
-  few : count n (λ j. not (all_honest j)) ≤ faults n
+  pub few : count n (λ j. not (all_honest j)) ≤ faults n
   few = let z = no_faulty n in omega arith
 
   abbrev LeadsTo : Replicas → Replicas → Type 0
@@ -95,7 +78,7 @@ module _ (rule : RuleName) (n : ℕ) (li : T (listed n)) where
             shown_stays (whole_begun (setting_of rule) meaning_of n all_honest (lawful_setting rule) li few p.evening.start p.evening.opened) (leads_then rule n p.evening.calls l) i k r lt to (dealt_bit_lem p.coin k r)
             (ap (λ (z : DealtCoin). dealt_acts.shown z k r) (p.dealt i lt))
 
-    agreement : (s' : Replicas) → LeadsTo p.now s' → Agreement (setting_of rule) meaning_of n all_honest p.now s'
+    pub agreement : (s' : Replicas) → LeadsTo p.now s' → Agreement (setting_of rule) meaning_of n all_honest p.now s'
     agreement s' l = evenings_agree (setting_of rule) meaning_of (lawful_setting rule) n all_honest p.now s' li few p.evening l (coins_agree s' l)
 
     abbrev held_record : Held → List ℕ

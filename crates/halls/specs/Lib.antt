@@ -5,3 +5,8 @@ pub mod Faults
 pub mod Tills
 pub mod Packets
 pub mod Plays
+pub mod Scenes
+pub mod Sweeps
+pub mod Halls
+pub mod Prints
+pub mod Scripts

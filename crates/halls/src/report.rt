@@ -1,26 +1,35 @@
 // The lines that a close prints.
+ghost use Rattle.std.specs.Prelude.{◌≡◌, ◌<◌, length, IfOk, IfSome, string_bytes};
+ghost use Rattle.std.specs.Option.{option_map};
+ghost use Rattle.basis.specs.Refusals.{number_of};
+ghost use Rattle.sheets.specs.OfTakings.{takings_rows};
+ghost use Rattle.halls.specs.Prints.{closes_text, refused_text, field_split, split_lines, RecordLines};
+
 use basis::refusal::Refusal;
 use std::alloc::{AllocError, Global};
-use std::fmt::Write;
 use text::hex::push_hex;
 
 // The first field of a record, with its tag and length, and what follows it.
-fn split_field(record: &[u8]) -> Option<(&[u8], &[u8])> {
-    let (head, _) = record.split_first_chunk::<3>()?;
-    let [_, high, low] = *head;
-    let end = 3 + 256 * usize::from(high) + usize::from(low);
+fn split_field(record: &[u8]) -> Option<(&[u8], &[u8])>
+    ensures value { option_map (λ p. (p.0.now, p.1.now)) result ≡ field_split «record».now }
+    ensures shorter { IfSome result (λ p. length p.1.now < length «record».now) }
+{
+    let [_, high, low, ..] = record else {
+        return None;
+    };
+    let end = 3 + usize::from(u16::from_be_bytes([*high, *low]));
     record.split_at_checked(end)
 }
 
 // The lines of an accepted close: that the till closes, and each field of its closing record.
-pub fn closing_lines(heap: Global, till: u8, record: &[u8]) -> Result<String, AllocError> {
-    let mut lines = String::new(heap);
-    let _ = write!(lines, "till {till} closes\n");
+#[tactic(auto, using(crate::proofs::Printing::of_takings))]
+pub fn closing_lines(heap: Global, till: u8, record: &[u8]) -> Result<String, AllocError>
+    ensures lines { IfOk result (λ s. string_bytes s ≡ closes_text till (split_lines «record».now)) }
+    ensures of_record { RecordLines takings_rows 12 1 «record».now }
+{
+    let mut lines = format!(in heap; "till {till} closes\n")?;
     let mut rest = record;
-    for _ in 0..record.len() {
-        let Some((field, more)) = split_field(rest) else {
-            break;
-        };
+    while let Some((field, more)) = split_field(rest) {
         push_hex(&mut lines, field)?;
         lines.push('\n')?;
         rest = more;
@@ -29,10 +38,10 @@ pub fn closing_lines(heap: Global, till: u8, record: &[u8]) -> Result<String, Al
 }
 
 // The line of a refused close.
-pub fn refused_line(heap: Global, till: u8, refusal: Refusal) -> Result<String, AllocError> {
-    let mut line = String::new(heap);
+pub fn refused_line(heap: Global, till: u8, refusal: Refusal) -> Result<String, AllocError>
+    ensures { IfOk result (λ s. string_bytes s ≡ refused_text till (number_of refusal.reason) refusal.place) }
+{
     let number = refusal.reason.number();
     let place = refusal.place;
-    let _ = write!(line, "till {till} refused {number} {place}\n");
-    Ok(line)
+    format!(in heap; "till {till} refused {number} {place}\n")
 }

@@ -1,13 +1,14 @@
 // One till of a hall: its replica, in its state, with the tables and the coin that the till lends it.
-ghost use Rattle.std.specs.Prelude.{◌≡◌, Some, IfOk, OnOk, replicate};
+ghost use Rattle.std.specs.Prelude.{◌≡◌, ◌<◌, T, Some, IfOk, IfErr, replicate};
+ghost use Rattle.basis.specs.Halls.{listed};
 ghost use Rattle.scripts.specs.declared.command.RuleName.{RuleName as AnyRule};
 ghost use Rattle.outcomes.specs.Opening.{Opened};
 ghost use Rattle.sheets.specs.OfTakings.{takings_bytes};
-ghost use Rattle.halls.specs.declared.till.Fault.TheVariants.{Refused as IsRefused};
-ghost use Rattle.halls.specs.Faults.{fault_told, heard_of, said_of, said_output, closed_of, recorded_output};
+ghost use Rattle.halls.specs.declared.till.Fault.TheVariants.{Refused as IsRefused, Memory as IsMemory};
+ghost use Rattle.halls.specs.Faults.{fault_told, offered_of, heard_of, said_of, said_output, closed_of, recorded_of, recorded_output};
+ghost use Rattle.halls.specs.Scenes.{newly_opened};
 ghost use Rattle.halls.specs.States.{setting_of, numbers_in, is_active, offer_left, hear_left, close_left};
 ghost use Rattle.halls.specs.Tills.{held_by};
-ghost use Rattle.saying.specs.SaysTheFirst.{SaysTheFirst};
 
 use crate::ruled::offer_by;
 use crate::state::{Active, State};
@@ -48,12 +49,16 @@ impl From<Refusal> for Fault {
 }
 
 impl From<AllocError> for Fault {
+    ghost from_gives = { λ e fault. fault ≡ IsMemory };
+
     fn from(_e: AllocError) -> Fault {
         Fault::Memory
     }
 }
 
 impl<T: Drop> From<AllocFailed<T>> for Fault {
+    ghost from_gives = { λ e fault. fault ≡ IsMemory };
+
     fn from(_e: AllocFailed<T>) -> Fault {
         Fault::Memory
     }
@@ -81,6 +86,8 @@ impl Till {
         ensures numbers { IfOk result (λ t. numbers_in t.state ≡ Some (record { n = n; own = number })) }
         ensures coin { IfOk result (λ t. t.coin ≡ record { numbers = replicate 16 coin }) }
         ensures opened { (rule : AnyRule) → IfOk result (λ t. Opened (setting_of rule) n number (held_by t)) }
+        ensures holds { IfOk result (λ t. held_by t ≡ newly_opened n coin) }
+        ensures fails { T (listed n) → number < n → IfErr result (λ e. e ≡ IsMemory) }
     {
         let size = usize::from(n);
         let mut records = vec![in heap; vacant_record(); size]?;
@@ -111,6 +118,7 @@ impl Till {
     // Offers takings, where the till has not offered yet. A refused offer leaves it as it was.
     pub fn offer(&mut self, rule: RuleName, sheet: &Takings) -> Result<(), Fault>
         ensures numbers { numbers_in self.new.state ≡ numbers_in self.old.state }
+        ensures answer { fault_told result ≡ offered_of rule self.old.state (held_by self.old) }
         ensures left { held_by self.new ≡ offer_left rule self.old.state (takings_bytes sheet.now) (held_by self.old) }
     {
         if self.has_offered() {
@@ -154,7 +162,6 @@ impl Till {
     // Writes the first message that the till has said at or after a position, and answers its position.
     pub fn say(&self, rule: RuleName, from: u32, out: &mut [u8]) -> Result<Option<u32>, Fault>
         ensures answer { fault_told result ≡ said_of rule self.now.state from out.old (held_by self.now) }
-        ensures law { OnOk result (SaysTheFirst (setting_of rule)) }
         ensures output { out.new ≡ said_output rule self.now.state from out.old (held_by self.now) }
     {
         let State::Active(active) = &self.state else {
@@ -198,7 +205,8 @@ impl Till {
 
     // Writes the closing record of a closed till and answers its length.
     pub fn record(&self, out: &mut [u8]) -> Result<usize, Fault>
-        ensures { out.new ≡ recorded_output self.now.state out.old (held_by self.now) }
+        ensures answer { fault_told result ≡ recorded_of self.now.state out.old (held_by self.now) }
+        ensures output { out.new ≡ recorded_output self.now.state out.old (held_by self.now) }
     {
         let State::Active(Active::Closed(closed)) = &self.state else {
             return Err(Fault::Misplaced);

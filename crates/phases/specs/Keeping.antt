@@ -35,6 +35,9 @@ pub record Sound (t n own : ℕ) (m : Round) : Type 0 where
 entered_now : (m : Round) → is_entered_lem m ≡ true → 0 < m.entered
 entered_now m h = let ne = eqb-false m.entered 0 (not-true _ h) in omega arith
 
+entered_so : (m : Round) → 0 < m.entered → is_entered_lem m ≡ true
+entered_so m lo = not_from_false (m.entered == 0) (ne_eqb m.entered 0 (λ z. omega arith))
+
 module _ (t n own : ℕ) where
   more : (m m' : Round) → ((t v j : ℕ) → m.votes t v j ≡ true → m'.votes t v j ≡ true) → (t' x : ℕ) → quorum n ≤ count n (m.votes t' x) → quorum n ≤ count n (m'.votes t' x)
   more m m' g t' x h = let c = count_mono n (m.votes t' x) (m'.votes t' x) (g t' x) in omega arith
@@ -167,6 +170,7 @@ module _ (tags : VoteTags) (t n own : ℕ) (tag : 32 < t) (steps : ℕ → ℕ �
         (λ y x. ⊎_elim inl (λ new. inr new.2) (says_only 32 y own (begun y m) t' v j x)) ((own-steps m).only t' v j);
     none_before_entering = λ m h. (sound h).base.silent;
     entering_sets_the_bit = λ m h x s. bits m x (m.entered == 0) refl;
+    entering_again = λ m h x s lo. cond-true (is_entered_lem m) m (says 32 x own (begun x m)) (entered_so m lo);
     hearing_keeps_the_bit = λ m h w au. hears_cases w m (λ y. y.entered ≡ m.entered) refl (λ _. refl);
     steps_keep_the_bit = λ m h. (own-steps m).bit;
     first_vote_has_a_ground = λ m h x s. (sound h).said x;

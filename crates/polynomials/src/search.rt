@@ -75,7 +75,7 @@ pub fn shown_bit(n: u8, held: ReplicaSet, shares: &[u8; 16]) -> Option<bool>
 {
     let enough = quorum_size(n);
     let mut shown = None;
-    // a rule of the project: a nested search over choices of held shares, left by a label
+    // the specification fixes this form: a nested search over choices of held shares, left by a label
     'choices: for choice in 0..choices(n) {
         if !is_usable(n, choice, held) {
             continue;

@@ -1,6 +1,8 @@
 // What a closed replica gives: the list and the closing record.
 ghost use Rattle.std.specs.Prelude.{◌≡◌, length};
 ghost use Rattle.basis.specs.Refusals.{told};
+ghost use Rattle.closing.specs.ListTells.{ListTells};
+ghost use Rattle.closing.specs.RecordLength.{RecordLength};
 ghost use Rattle.closing.specs.Telling.{entry_told};
 ghost use Rattle.evening_witness.specs.Witness.{SomeEveningCloses};
 ghost use Rattle.evenings.specs.Claims.{EveningsAgree, EveningsFill, EveningsRest, RestIfRoundsEnd};
@@ -19,7 +21,8 @@ use rules::rule::Rule;
 use sheets::sheet::Sheet;
 
 impl Closed {
-    // The entry at an index of the closing list, which rises by replica.
+    // The entry at an index of the closing list, which rises by replica, has an entry at each index below the number of
+    // listed sheets, and has just what the closing record has.
     pub fn list<S: Sheet, R: Rule>(
         &self,
         index: usize,
@@ -27,7 +30,8 @@ impl Closed {
         rounds: &[R::Record],
         places: &[S::Row],
     ) -> Result<ListEntry<S>, Refusal>
-        ensures { entry_told S.Sheet.bytes result ≡ list_answer S.Sheet.rows self.now.member.n (viewed records.now (length rounds.now) places.now) index }
+        ensures answer { entry_told S.Sheet.bytes result ≡ list_answer S.Sheet.rows self.now.member.n (viewed records.now (length rounds.now) places.now) index }
+        ensures law { ListTells S.Sheet.rows }
     {
         list_entry(self.member, records, rounds.len(), places, index)
     }
@@ -44,6 +48,7 @@ impl Closed {
     ) -> Result<usize, Refusal>
         ensures answer { told result ≡ record_answer S.Sheet.rows self.now.member.n (viewed records.now (length rounds.now) places.now) S.Sheet.LEN S.Sheet.KIND out.old }
         ensures output { out.new ≡ record_output S.Sheet.rows self.now.member.n (viewed records.now (length rounds.now) places.now) S.Sheet.LEN S.Sheet.KIND out.old }
+        ensures length { RecordLength S.Sheet.rows S.Sheet.LEN }
         ensures agree { EveningsAgree (setting S.Sheet.rows S.Sheet.LEN S.Sheet.KIND S.Sheet.lawful R.Rule.acts C.Coin.acts) R.Rule.meaning }
         ensures fill { EveningsFill (setting S.Sheet.rows S.Sheet.LEN S.Sheet.KIND S.Sheet.lawful R.Rule.acts C.Coin.acts) R.Rule.meaning }
         ensures rest { RestIfRoundsEnd (setting S.Sheet.rows S.Sheet.LEN S.Sheet.KIND S.Sheet.lawful R.Rule.acts C.Coin.acts) R.Rule.meaning }

@@ -1,23 +1,23 @@
 // Closing, listing and recording, with decisions put into the tables by hand.
-use crate::four::{RECORD_OF_THREE, Replica, told};
+use crate::replicas::{RECORD_OF_THREE, Replica, is_written};
 use basis::heard::Heard;
+use closing::list::ListEntry;
 use coins::dealt::DealtCoin;
-use phases::phased::ThreePhase;
-use phases::round::PhasedRound;
-use replica::states::Running;
+use replica::states::{Closed, Running};
 use sheets::kinds::{Label, Takings};
 use sheets::sheet::Sheet;
+use std::process::Abort;
 use std::test::Fail;
 
 // Readies of 1250, -200 and 0 cents for slots 0 to 2.
-const READIES: [&[u8]; 3] = [
+pub const READIES: [&[u8]; 3] = [
     b"\x12\x00\x0d\x00\x00\x00\x00\x00\x00\x00\x04\xe2\x00\x00\x00\x03",
     b"\x12\x00\x0d\x01\xff\xff\xff\xff\xff\xff\xff\x38\x00\x00\x00\x01",
     b"\x12\x00\x0d\x02\x00\x00\x00\x00\x00\x00\x00\x00\x00\x00\x00\x00",
 ];
 
 // Replica 0, to which replicas 1 and 2 have said readies; with its own they deliver.
-fn delivering<S: Sheet>(
+pub fn delivering<S: Sheet>(
     sheet: &S,
     readies: [&[u8]; 3],
 ) -> Result<Replica<Running, S, DealtCoin, true>, Fail> {
@@ -30,7 +30,7 @@ fn delivering<S: Sheet>(
 }
 
 // Puts decisions into the tables.
-fn decide<S: Sheet>(
+pub fn decide<S: Sheet>(
     replica: &mut Replica<Running, S, DealtCoin, true>,
     decided: [Option<bool>; 4],
 ) {
@@ -66,6 +66,26 @@ fn close_names_the_lowest(rt: HostRuntime) -> Result<(), Fail> {
     Ok(())
 }
 
+// Checks the list and the record where takings of 1250, -200 and 0 cents are in.
+pub fn check_closed(
+    rt: &impl Abort,
+    closed: &Replica<Closed, Takings, DealtCoin, true>,
+) -> Result<(), Fail> {
+    for (index, replica, cents, receipts) in [(0, 0, 1250, 3), (1, 1, -200, 1), (2, 2, 0, 0)] {
+        let sheet = Takings::new(cents, receipts)?;
+        assert_eq!(rt; closed.entry(index), Ok(ListEntry { replica, sheet }));
+    }
+    assert_eq!(rt; closed.listed(3), Err((17, 0)));
+    assert_eq!(rt; closed.listed(usize::MAX), Err((17, 0)));
+    let mut short = [0xeeu8; 54];
+    assert_eq!(rt; closed.record(&mut short), Err((16, 0)));
+    assert_eq!(rt; short, [0xee; 54]);
+    let mut bytes = [0xeeu8; 56];
+    assert_eq!(rt; closed.record(&mut bytes), Ok(55));
+    assert!(rt; is_written(&bytes, RECORD_OF_THREE));
+    Ok(())
+}
+
 #[test]
 fn lists_and_records(rt: HostRuntime) -> Result<(), Fail> {
     let (out, into) = (Some(false), Some(true));
@@ -74,59 +94,14 @@ fn lists_and_records(rt: HostRuntime) -> Result<(), Fail> {
     let Ok(mut closed) = replica.close() else {
         return Err(Fail::new("close is refused"));
     };
-    for (index, listed) in [(0, Ok(0)), (1, Ok(1)), (2, Ok(2)), (3, Err((17, 0)))] {
-        assert_eq!(rt; closed.listed(index), listed);
-    }
-    let mut short = [0xeeu8; 54];
-    assert_eq!(rt; closed.record(&mut short), Err((16, 0)));
-    assert_eq!(rt; short, [0xee; 54]);
+    check_closed(&rt, &closed)?;
     // a closed replica hears and says on, and its record stays
     let late = b"\x21\x00\x03\x03\x00\x01";
     assert_eq!(rt; closed.hear(3, late), Ok(Heard::New));
     assert_eq!(rt; closed.hear(3, late), Ok(Heard::Known));
     assert_eq!(rt; closed.hear(3, b"\x21\x00\x03\x03\x00\x00"), Err((13, 5)));
     assert!(rt; closed.has_said(0x100000));
-    let mut bytes = [0xeeu8; 56];
-    assert_eq!(rt; closed.record(&mut bytes), Ok(55));
-    assert!(rt; bytes.starts_with(RECORD_OF_THREE));
-    assert_eq!(rt; bytes[55], 0xee);
-    Ok(())
-}
-
-// Close, list and record check the tables before all else.
-#[test]
-fn small_tables_come_first(rt: HostRuntime) -> Result<(), Fail> {
-    let out = Some(false);
-    let mut replica = Replica::offering(0, &Takings::new(0, 0)?, DealtCoin::same(0))?;
-    let tables = replica.tables;
-    let few = [PhasedRound::default(); 59];
-    let closing = replica
-        .state
-        .close::<Takings, ThreePhase>(&tables.records, &few, &tables.places);
-    let Err((state, refusal)) = closing else {
-        return Err(Fail::new("closed without tables"));
-    };
-    assert_eq!(rt; (refusal.reason.number(), refusal.place), (4, 0));
-    replica.state = state;
-    decide(&mut replica, [out, out, out, out]);
-    let Ok(closed) = replica.close() else {
-        return Err(Fail::new("close is refused"));
-    };
-    assert_eq!(rt; closed.listed(0), Err((17, 0)));
-    let listed = closed
-        .state
-        .list::<Takings, ThreePhase>(0, &tables.records, &few, &tables.places);
-    assert_eq!(rt; told(listed).err(), Some((4, 0)));
-    let recorded = closed
-        .state
-        .record::<Takings, ThreePhase, DealtCoin>(
-            &mut [0u8; 0],
-            &tables.records,
-            &few,
-            &tables.places,
-        );
-    assert_eq!(rt; told(recorded), Err((4, 0)));
-    Ok(())
+    check_closed(&rt, &closed)
 }
 
 // A sheet message of an empty label file.

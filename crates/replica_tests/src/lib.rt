@@ -1,4 +1,4 @@
-// Tests of a replica's calls: each refusal with its place, steps, closing, and whole evenings.
+// Tests of a replica's calls: each refusal with its place, steps, shares, closing, and whole evenings.
 #![tactic(auto)]
 
 #[cfg(test)]
@@ -6,12 +6,20 @@ mod closed;
 #[cfg(test)]
 mod evening;
 #[cfg(test)]
-mod four;
+mod forged;
 #[cfg(test)]
 mod opening;
 #[cfg(test)]
 mod packets;
 #[cfg(test)]
+mod replicas;
+#[cfg(test)]
+mod resting;
+#[cfg(test)]
 mod said;
+#[cfg(test)]
+mod shares;
+#[cfg(test)]
+mod small_tables;
 #[cfg(test)]
 mod steps;

@@ -1,5 +1,5 @@
 // What a replica says, in the order of positions.
-use crate::four::ThreePhased;
+use crate::replicas::ThreePhased;
 use coins::dealt::DealtCoin;
 use sheets::kinds::Takings;
 use std::test::Fail;

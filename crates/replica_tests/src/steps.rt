@@ -1,39 +1,12 @@
 // The steps that replica 0 of four takes on what it hears, seen by what it has then said.
-use crate::four::ThreePhased;
+use crate::replicas::{ThreePhased, Turn, proposed, sheet_message};
 use coins::dealt::DealtCoin;
 use sheets::kinds::Takings;
-use std::process::Abort;
 use std::test::Fail;
 
-// A packet of a sender, a position, and whether a message of this position is said after the packet was heard.
-type Turn = (u8, &'static [u8], u32, bool);
-
-// An echo or ready of no takings for a slot.
-fn sheet_message(tag: u8, slot: u8) -> [u8; 16] {
-    [tag, 0, 13, slot, 0, 0, 0, 0, 0, 0, 0, 0, 0, 0, 0, 0]
-}
-
-// Replica 0 with slots 0, 1 and 2 delivered by the readies of replicas 1 and 2: it has proposed.
-fn proposed() -> Result<ThreePhased, Fail> {
-    let mut replica = ThreePhased::offering(0, &Takings::new(0, 0)?, DealtCoin::same(0))?;
-    for slot in 0..3 {
-        let _ = replica.hear(1, &sheet_message(0x12, slot));
-        let _ = replica.hear(2, &sheet_message(0x12, slot));
-    }
-    Ok(replica)
-}
-
-// Hears each packet in turn, and looks for what is said then.
-fn check_turns(rt: &impl Abort, replica: &mut ThreePhased, turns: &[Turn]) {
-    for &(sender, packet, position, said) in turns {
-        let heard = replica.hear(sender, packet);
-        assert!(rt; heard.is_ok());
-        assert_eq!(rt;
-            replica.has_said(position),
-            said,
-            "{position} after {sender}"
-        );
-    }
+// Replica 0 that has proposed, with a coin that shows 0.
+fn proposed_with_zeros() -> Result<ThreePhased, Fail> {
+    proposed(DealtCoin::same(0))
 }
 
 #[test]
@@ -50,7 +23,7 @@ fn readies_and_echoes_make_a_ready(rt: HostRuntime) -> Result<(), Fail> {
         assert!(rt; heard.is_ok());
         assert_eq!(rt; replica.has_said(0x120000 + 4096 * u32::from(slot)), said);
     }
-    let [_, _, two, three] = replica.tables.records;
+    let [_, _, two, three, ..] = replica.tables.records;
     assert_eq!(rt; two.slot.delivered, None);
     assert_eq!(rt; three.slot.delivered, Some(0));
     Ok(())
@@ -58,7 +31,7 @@ fn readies_and_echoes_make_a_ready(rt: HostRuntime) -> Result<(), Fail> {
 
 #[test]
 fn the_third_delivery_proposes(rt: HostRuntime) -> Result<(), Fail> {
-    let replica = proposed()?;
+    let replica = proposed_with_zeros()?;
     for position in [
         0x200001, 0x201001, 0x202001, 0x203000, 0x210001, 0x211001, 0x212001,
     ] {
@@ -73,13 +46,13 @@ fn the_third_delivery_proposes(rt: HostRuntime) -> Result<(), Fail> {
 // With its own three second votes for 1: it decides 1 and enters round 1 with 1.
 #[test]
 fn proposed_1_decides_1(rt: HostRuntime) -> Result<(), Fail> {
-    let mut replica = proposed()?;
+    let mut replica = proposed_with_zeros()?;
     let turns: [Turn; 2] = [
         (1, b"\x21\x00\x03\x00\x00\x01", 0x200101, false),
         (2, b"\x21\x00\x03\x00\x00\x01", 0x200101, true),
     ];
-    check_turns(&rt, &mut replica, &turns);
-    let [zero, one, _, _] = replica.tables.records;
+    replica.check_turns(&rt, &turns);
+    let [zero, one, ..] = replica.tables.records;
     assert_eq!(rt; zero.ballot.decided, Some(true));
     assert_eq!(rt; one.ballot.decided, None);
     Ok(())
@@ -87,12 +60,12 @@ fn proposed_1_decides_1(rt: HostRuntime) -> Result<(), Fail> {
 
 #[test]
 fn proposed_0_joins_two_first_votes_1(rt: HostRuntime) -> Result<(), Fail> {
-    let mut replica = proposed()?;
+    let mut replica = proposed_with_zeros()?;
     let turns: [Turn; 2] = [
         (1, b"\x20\x00\x03\x03\x00\x01", 0x203001, false),
         (2, b"\x20\x00\x03\x03\x00\x01", 0x203001, true),
     ];
-    check_turns(&rt, &mut replica, &turns);
+    replica.check_turns(&rt, &turns);
     assert!(rt; replica.has_said(0x213001));
     Ok(())
 }
@@ -100,20 +73,20 @@ fn proposed_0_joins_two_first_votes_1(rt: HostRuntime) -> Result<(), Fail> {
 // Delivered late, it says first vote 1 and no second vote; one first vote of another admits 1.
 #[test]
 fn proposed_0_delivers_late(rt: HostRuntime) -> Result<(), Fail> {
-    let mut replica = proposed()?;
+    let mut replica = proposed_with_zeros()?;
     let _ = replica.hear(1, &sheet_message(0x12, 3));
     let _ = replica.hear(2, &sheet_message(0x12, 3));
     assert!(rt; replica.has_said(0x203001));
     assert!(rt; !replica.has_said(0x213001));
     let turns: [Turn; 1] = [(1, b"\x20\x00\x03\x03\x00\x01", 0x213001, true)];
-    check_turns(&rt, &mut replica, &turns);
+    replica.check_turns(&rt, &turns);
     Ok(())
 }
 
 // Ballot 3 enters round 1 with 0, ends it by third votes {0}, and the coin's bit 0 decides 0.
 #[test]
 fn a_round_of_three_phases_decides_0(rt: HostRuntime) -> Result<(), Fail> {
-    let mut replica = proposed()?;
+    let mut replica = proposed_with_zeros()?;
     let turns: [Turn; 10] = [
         (1, b"\x20\x00\x03\x03\x00\x00", 0x213000, false),
         (2, b"\x20\x00\x03\x03\x00\x00", 0x213000, true),
@@ -126,8 +99,8 @@ fn a_round_of_three_phases_decides_0(rt: HostRuntime) -> Result<(), Fail> {
         (1, b"\x22\x00\x03\x03\x01\x01", 0x203200, false),
         (2, b"\x22\x00\x03\x03\x01\x01", 0x203200, true),
     ];
-    check_turns(&rt, &mut replica, &turns);
-    let [_, _, _, three] = replica.tables.records;
+    replica.check_turns(&rt, &turns);
+    let [_, _, _, three, ..] = replica.tables.records;
     assert_eq!(rt; three.ballot.decided, Some(false));
     Ok(())
 }

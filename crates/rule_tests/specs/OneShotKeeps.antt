@@ -1,7 +1,7 @@
 -- The one-shot rule keeps what every rule keeps. Assumes nothing.
 use Rattle.std.specs.Prelude.{◌≡◌, ℕ, ◌<◌, ◌≤◌, Bool, true, false, cond, ◌&&◌, ◌⊎◌, ◌==◌, nat_le, refl}
 use Rattle.std.proofs.Common.{sym, ap, ◌∙◌, subst, inl, inr, ⊎_elim, arith, lit<}
-use Rattle.std.proofs.lemmas.Bool.{eqb-true, leb-true, cond_both, cond-true, cond-false, and_parts, or_left, or_cases, false≢true}
+use Rattle.std.proofs.lemmas.Bool.{eqb-true, ne_eqb, leb-true, cond_both, cond-true, cond-false, and_parts, or_left, or_cases, false≢true}
 use Rattle.basis.specs.Counts.{count}
 use Rattle.basis.specs.Halls.{quorum}
 use Rattle.basis.proofs.Counts.{count_mono}
@@ -82,6 +82,7 @@ module _ (n own : ℕ) where
         (λ x y. ⊎_elim (λ o'. ⊎_elim inl (λ new. inr new.2) (added 32 x own (with_bit x m) t v j o')) (λ new. inr new.2) (added last x own (with_vote 32 x own (with_bit x m)) t v j y)) inl;
     none_before_entering = λ m h t v x. ((sound h).mine t v x).1;
     entering_sets_the_bit = λ m h x s. bits m x (m.entered == 0);
+    entering_again = λ m h x s lo. cond-false (m.entered == 0) (started own x m) m (ne_eqb m.entered 0 (λ z. omega arith));
     hearing_keeps_the_bit = λ m h w au. cond_both (is_new w m) (with_vote w.tag w.set w.sender m) m (λ (y : Round). y.entered ≡ m.entered) (λ _. refl) (λ _. refl);
     steps_keep_the_bit = λ m h. cond_both (m.verdict == 0) (with_verdict (found_lem n m) m) m (λ (y : Round). y.entered ≡ m.entered) (λ _. refl) (λ _. refl);
     first_vote_has_a_ground = λ m h x s y. inl ((sound h).mine 32 x y).0;

@@ -85,6 +85,8 @@ pub record Laws (a : Acts) (n own : ℕ) : Type 0 where
   pub none_before_entering : (m : Round) → Reached a n own m → (t v : ℕ) → m.votes t v own ≡ true → 0 < m.entered
   -- Only entering sets the bit, and only where none is set.
   pub entering_sets_the_bit : (m : Round) → Reached a n own m → (x : ℕ) → Single x → (a.enter n own x m).entered ≡ cond (m.entered == 0) x m.entered
+  -- Entering a round that has been entered changes nothing.
+  pub entering_again : (m : Round) → Reached a n own m → (x : ℕ) → Single x → 0 < m.entered → a.enter n own x m ≡ m
   pub hearing_keeps_the_bit : (m : Round) → Reached a n own m → (w : Vote) → Audible a.tags n own w → (a.hear n own w m).entered ≡ m.entered
   pub steps_keep_the_bit : (m : Round) → Reached a n own m → (a.steps n own m).entered ≡ m.entered
   -- A first vote is said only with the entered bit, or with f + 1 others' first votes of it.

@@ -49,7 +49,8 @@ recorded w m = m.votes w.tag w.set w.sender
 abbrev pub voted : ℕ → ℕ → Round → Bool
 voted t j m = m.votes t 1 j || (m.votes t 2 j || m.votes t 3 j)
 
--- another vote of its sender is recorded under its tag, and that tag, being above 0x20, bears one vote of each sender
+-- some vote of its sender is recorded under its tag, which, being above 0x20, bears one vote of each sender; of a vote that is
+-- not recorded itself this makes a contradiction
 abbrev pub contradicts : Vote → Round → Bool
 contradicts w m = nat_lt 32 w.tag && voted w.tag w.sender m
 

@@ -1,6 +1,7 @@
 -- The lowest of all messages that are said. Assumes nothing.
-use Rattle.std.proofs.Common.{◌≡◌, ℕ, ◌+◌, ◌<◌, ◌≤◌, ◌⊎◌, Bool, true, false, cond, List, None, Option, refl, ⊎_elim, arith}
+use Rattle.std.proofs.Common.{◌≡◌, ℕ, ◌+◌, ◌<◌, ◌≤◌, ◌⊎◌, Bool, true, false, cond, List, Some, None, Option, refl, ⊎_elim, arith}
 use Rattle.broadcast.specs.Saying.{next_said}
+use Rattle.coins.specs.Coins.{Tossed}
 use Rattle.messages.specs.declared.message.Message.{Message}
 use Rattle.messages.specs.declared.message.Phase.{Phase}
 use Rattle.messages.specs.declared.message.Phase.TheVariants.{Send, Echo, Ready}
@@ -9,7 +10,6 @@ use Rattle.messages.specs.Writing.{tag_of, slot_of, round_of, value_of}
 use Rattle.slots.specs.Places.{or_else}
 use Rattle.outcomes.specs.Holdings.{Setting, Holding}
 use Rattle.outcomes.specs.Saying.{first_of, first_share_in, first_under, first_share, first_if_used, first_vote, next_message}
-use Rattle.saying.specs.SaysTheFirst.{LawfulShares}
 use Rattle.saying.proofs.Lowest.{IsLowest, Among, lowest_same, lowest_of_two, lowest_of_all}
 use Rattle.saying.proofs.Positions.{by_tag}
 use Rattle.saying.proofs.SaidVotes.{VoteIn, vote_at, under_lowest}
@@ -20,6 +20,10 @@ use Rattle.saying.proofs.SaidSheets.{AnySheet, sheet_at, sheet_lowest}
 lowest_if : (P : Message (List ℕ) → Type 0) (b : Bool) (o : Option (Message (List ℕ))) → IsLowest P o → IsLowest (λ m. (b ≡ true) × P m) (cond b o None)
 lowest_if P true o l = lowest_same P (λ m. (◌≡◌ {A = Bool} true true) × P m) o (λ m p. (refl, p)) (λ m p. p.1) l
 lowest_if P false o l = λ m p. absurd (let e = p.0 in let z : ◌≡◌ {A = ℕ} 0 1 = cc in omega arith)
+
+-- the own shares that are taken are lawful
+abbrev pub LawfulShares : {R C : Type 0} → Setting R C → ℕ → Holding R C → Type 0
+LawfulShares g own h = (k r x : ℕ) → Tossed k r → g.coins.taken_of h.coin k r own ≡ Some x → x ≤ 250
 
 module _ {R C : Type 0} (g : Setting R C) (n own from : ℕ) (h : Holding R C) where
   -- a vote under a tag that the rule uses, by its tag; a share of a coin that uses shares
@@ -39,7 +43,7 @@ module _ {R C : Type 0} (g : Setting R C) (n own from : ℕ) (h : Holding R C) w
   abbrev pub Any : Message (List ℕ) → Type 0
   Any m = Sheets m ⊎ (AnyVote m ⊎ AnyShare m)
 
-  module _ (most : n ≤ 16) (shares : LawfulShares g n own h) where
+  module _ (most : n ≤ 16) (shares : LawfulShares g own h) where
     vote_lowest : IsLowest AnyVote (first_vote g n own h from)
     vote_lowest = lowest_of_all (λ i. first_if_used g n own h from (32 + i)) (λ i. VoteUnder (32 + i)) 16
         (λ i l. lowest_if (Among n (λ k. Among 16 (VoteIn own h from (32 + i) k))) (uses g.rule.tags (32 + i)) (first_under own h from n (32 + i)) (under_lowest own h from n (32 + i) (omega arith)))

@@ -2,10 +2,11 @@
 use Rattle.std.proofs.Common.{◌≡◌, ℕ, zero, suc, ◌+◌, ◌-◌, ◌<◌, ◌≤◌, inl, inr, Bool, true, false, cond, ◌&&◌, List, ◌++◌, length, drop, Some, None, Option, Ok, refl, sym, ap, ◌∙◌, subst, ap₂, ⊎_elim, arith}
 use Rattle.std.specs.Prelude.{nat_le, nat_lt, ◌==◌}
 use Rattle.std.specs.Option.{option_map}
-use Rattle.std.proofs.lemmas.Bool.{and_parts, leb-true, leb-false, le-leb, lt-leb}
+use Rattle.std.proofs.lemmas.Bool.{and_parts, leb-true, leb-false, ltb-true, le-leb, lt-leb}
 use Rattle.basis.specs.Refusals.{refused}
 use Rattle.ballots.specs.States.{round_at}
 use Rattle.broadcast.specs.Saying.{told_position, put_message}
+use Rattle.coins.specs.Coins.{Keeps}
 use Rattle.messages.specs.declared.message.BitSet.{BitSet}
 use Rattle.messages.specs.declared.message.BitSet.TheVariants.{Zero, One, Both}
 use Rattle.messages.specs.declared.message.Message.{Message}
@@ -17,14 +18,14 @@ use Rattle.messages.specs.Writing.{written, position}
 use Rattle.rules.specs.Rounds.{bit_set}
 use Rattle.outcomes.specs.Holdings.{Setting, Holding, sizes_ok, state_of}
 use Rattle.outcomes.specs.Saying.{vote_message, may_be_cast, vote_said, share_message, next_message}
-use Rattle.saying.specs.SaysTheFirst.{ToSay, LawfulShares, Tells, SaysTheFirst}
+use Rattle.saying.specs.SaysTheFirst.{ToSay, Tells, SaysTheFirst}
 use Rattle.saying.proofs.Lowest.{IsLowest, lowest_same}
 use Rattle.saying.proofs.SaidVotes.{vote_tag_of, said_parts}
 use Rattle.saying.proofs.SaidShares.{share_parts, tossed}
-use Rattle.saying.proofs.AllSaid.{VoteUnder, AnyVote, AnyShare, Sheets, Any, any_lowest}
+use Rattle.saying.proofs.AllSaid.{LawfulShares, VoteUnder, AnyVote, AnyShare, Sheets, Any, any_lowest}
 use Rattle.saying.proofs.SaidSheets.{sheet_parts}
 
-module _ {R C : Type 0} (g : Setting R C) (lawful : (r : R) (s : List ℕ) → g.rows.held r ≡ Some s → g.lawful s ≡ true) (n own from : ℕ) (h : Holding R C) (most : n ≤ 16) (shares : LawfulShares g n own h) where
+module _ {R C : Type 0} (g : Setting R C) (lawful : (r : R) (s : List ℕ) → g.rows.held r ≡ Some s → g.lawful s ≡ true) (n own from : ℕ) (h : Holding R C) (most : n ≤ 16) (shares : LawfulShares g own h) where
   -- what is found is to be said
   abbrev Due : Message (List ℕ) → Type 0
   Due m = ToSay g n own h from m
@@ -109,15 +110,17 @@ module _ {R C : Type 0} (g : Setting R C) (lawful : (r : R) (s : List ℕ) → g
   due_lowest = lowest_same (Any g n own from h) Due (next_message g n own h from) due_of any_of (any_lowest g n own from h most shares)
 
 -- what say answers and leaves, by the message that it found
-tells_by : {R C : Type 0} (g : Setting R C) (n own from : ℕ) (h : Holding R C) (out : List ℕ) (o : Option (Message (List ℕ))) → IsLowest (ToSay g n own h from) o → (large : Bool) → Tells g n own h from out (cond large (told_position o out) (refused 4 0)) (cond large (put_message o out) out)
-tells_by g n own from h out o l false = refl
-tells_by g n own from h out None l true = (l, refl)
-tells_by g n own from h out (Some m) l true = go (nat_lt (length out) (length (written m)))
+tells_by : {R C : Type 0} (g : Setting R C) (n own from : ℕ) (h : Holding R C) (out : List ℕ) (o : Option (Message (List ℕ))) → IsLowest (ToSay g n own h from) o → (large : Bool) → sizes_ok n h ≡ large → Tells g n own h from out (cond large (told_position o out) (refused 4 0)) (cond large (put_message o out) out)
+tells_by g n own from h out o l false e = (refl, inl (refl, e))
+tells_by g n own from h out None l true e = (l, refl)
+tells_by g n own from h out (Some m) l true e = go (nat_lt (length out) (length (written m))) refl
   where
-    go : (b : Bool) → Tells g n own h from out (cond b (refused 16 0) (Ok (Some (position m)))) (cond b out (written m ++ drop (length (written m)) out))
-    go true = refl
-    go false = (m, record { to_say = l.0; lowest = l.1; told = refl; bytes = refl })
+    go : (b : Bool) → nat_lt (length out) (length (written m)) ≡ b → Tells g n own h from out (cond b (refused 16 0) (Ok (Some (position m)))) (cond b out (written m ++ drop (length (written m)) out))
+    go true short = (refl, inr (refl, (m, record { to_say = l.0; lowest = l.1; longer = ltb-true (length out) (length (written m)) short })))
+    go false enough = (m, record { to_say = l.0; lowest = l.1; told = refl; bytes = refl })
 
--- for every kind of sheet whose rows hold lawful sheets
-pub says_the_first : {R C : Type 0} (g : Setting R C) → ((r : R) (s : List ℕ) → g.rows.held r ≡ Some s → g.lawful s ≡ true) → SaysTheFirst g
-says_the_first g lawful n own from h out most shares = tells_by g n own from h out (next_message g n own h from) (due_lowest g lawful n own from h most shares) (sizes_ok n h)
+-- for every kind of sheet whose rows hold lawful sheets, and every coin that keeps its laws
+pub says_the_first : {R C : Type 0} (g : Setting R C) → ((r : R) (s : List ℕ) → g.rows.held r ≡ Some s → g.lawful s ≡ true) → Keeps g.coins → SaysTheFirst g
+says_the_first g lawful keeps n own from h out most low sound =
+    let shares : LawfulShares g own h = λ k r x t e. keeps.taken_lawful h.coin sound k r own t (omega arith) x e in
+    tells_by g n own from h out (next_message g n own h from) (due_lowest g lawful n own from h most shares) (sizes_ok n h) refl

@@ -1,0 +1,1 @@
+-- What is known of a replica's sheets stands with its proofs. Declares nothing.

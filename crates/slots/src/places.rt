@@ -61,7 +61,7 @@ impl<S: Sheet> SlotSheets<'_, S> {
     pub fn count_senders(&self, phase: Phase, sheet: &S) -> u32
         ensures { result ≡ tally S.Sheet.rows self.now.n self.now.places.now phase self.now.slot (S.Sheet.bytes sheet.now) }
     {
-        // a rule of the project: same sheets are counted by a loop over the slot's sheets with their sender
+        // the specification fixes this form: same sheets are counted by a loop over the slot's sheets with their sender
         let mut many = 0u32;
         for sender in 0..self.n {
             if self.has_sheet(phase, sender, sheet) {

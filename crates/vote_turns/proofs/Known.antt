@@ -1,5 +1,5 @@
 -- One replica's ballots as views, and what is known of them and of its coin. Assumes nothing.
-use Rattle.std.proofs.Common.{◌≡◌, ℕ, suc, ◌*◌, ◌<◌, ◌≤◌, Bool, false, cond, ◌&&◌, ◌⊎◌, length, Some, nat_lt, refl, ◌∙◌, inl, inr, ⊎_elim, arith}
+use Rattle.std.proofs.Common.{◌≡◌, ℕ, suc, ◌*◌, ◌<◌, ◌≤◌, Bool, false, cond, ◌&&◌, ◌⊎◌, length, Some, nat_lt, refl, sym, ◌∙◌, inl, inr, ⊎_elim, arith}
 use Rattle.std.proofs.lemmas.Bool.{cond-true, lt-ltb}
 use Rattle.coins.specs.Coins.{Acts as Coin-acts, Tossed, Sender}
 use Rattle.rules.specs.Rounds.{Round, cleared, bit_if_any}
@@ -43,12 +43,12 @@ pub record Well (a : Acts) (n own : ℕ) (v : View) (stage : ℕ) : Type 0 where
   pub unentered : (r : ℕ) → suc r < 16 → stage ≤ r → (v.rounds (suc r)).entered ≡ 0
   pub verdicts : (r : ℕ) → r < 16 → r < stage → 0 < (v.rounds r).verdict
 
--- How a coin changes: bits and shares stay, and only shares that may be taken are new, and own ones.
+-- How a coin changes: bits and shares stay, and only shares that may be taken are new, and the own ones.
 pub record CoinMoves {C : Type 0} (b : Coin-acts C) (own : ℕ) (ok : ℕ → ℕ → ℕ → ℕ → Type 0) (c c' : C) : Type 0 where
   pub sound : b.sound c'
   pub shown : (k r : ℕ) → Tossed k r → (x : Bool) → b.shown c k r ≡ Some x → b.shown c' k r ≡ Some x
   pub taken : (k r j : ℕ) → Tossed k r → Sender j → (v : ℕ) → b.taken_of c k r j ≡ Some v → b.taken_of c' k r j ≡ Some v
-  pub only : (k r j : ℕ) → Tossed k r → Sender j → (v : ℕ) → b.taken_of c' k r j ≡ Some v → (b.taken_of c k r j ≡ Some v) ⊎ ((j ≡ own) ⊎ ok k r j v)
+  pub only : (k r j : ℕ) → Tossed k r → Sender j → (v : ℕ) → b.taken_of c' k r j ≡ Some v → (b.taken_of c k r j ≡ Some v) ⊎ (((j ≡ own) × (b.own c k r ≡ Some v)) ⊎ ok k r j v)
   pub fixed : (k r : ℕ) → Tossed k r → b.own c' k r ≡ b.own c k r
 
 pub coin_none : {C : Type 0} (b : Coin-acts C) (own : ℕ) (ok : ℕ → ℕ → ℕ → ℕ → Type 0) (c : C) → b.sound c → CoinMoves b own ok c c
@@ -59,7 +59,7 @@ coin_then b own ok c c' c'' x y = record {
   sound = y.sound;
   shown = λ k r t v e. y.shown k r t v (x.shown k r t v e);
   taken = λ k r j t l v e. y.taken k r j t l v (x.taken k r j t l v e);
-  only = λ k r j t l v e. ⊎_elim (λ old. x.only k r j t l v old) inr (y.only k r j t l v e);
+  only = λ k r j t l v e. ⊎_elim (λ old. x.only k r j t l v old) (λ z. inr (⊎_elim (λ mine. inl (mine.0, sym (x.fixed k r t) ∙ mine.1)) inr z)) (y.only k r j t l v e);
   fixed = λ k r t. y.fixed k r t ∙ x.fixed k r t;
 }
 

@@ -5,6 +5,7 @@ use Rattle.basis.specs.Halls.{largest}
 use Rattle.basis.specs.Steps.{taking}
 use Rattle.coins.specs.Coins.{Acts as Coin-acts, Keeps as CoinKeeps, Takes, Tossed}
 use Rattle.coins.specs.declared.share.Share.{Share}
+use Rattle.coins.proofs.Showing.{bits_stay}
 use Rattle.rules.specs.Rounds.{Round, Vote, cleared, is_new, bit_if_any}
 use Rattle.rules.specs.Laws.{Acts, Single, Audible, Laws}
 use Rattle.phases.specs.Steps.{hears, records, says}
@@ -197,18 +198,18 @@ module _ {C : Type 0} (a : Acts) (b : Coin-acts C) (n own k : ℕ) (laws : Laws 
       read = round_read s (suc r) (omega arith)
 
   -- when the own share is due
-  due_facts : (u : Bool) (t w : Option ℕ) (v : ℕ) → cond u (due_by t w) None ≡ Some v → (u ≡ true) × (t ≡ None) × (v ≤ 250)
+  due_facts : (u : Bool) (t w : Option ℕ) (v : ℕ) → cond u (due_by t w) None ≡ Some v → (u ≡ true) × (t ≡ None) × (v ≤ 250) × (w ≡ Some v)
   due_facts false t w v e = absurd (none_some v refl e)
   due_facts true None None v e = absurd (none_some v refl e)
-  due_facts true None (Some x) v e = cond_both (nat_le x 250) (Some x) None (λ (o : Option ℕ). o ≡ Some v → (◌≡◌ {A = Bool} true true) × (◌≡◌ {A = Option ℕ} None None) × (v ≤ 250))
-      (λ h q. let z : x ≡ v = cc in let le = leb-true x 250 h in (refl, refl, omega arith)) (λ _ q. absurd (none_some v refl q)) e
+  due_facts true None (Some x) v e = cond_both (nat_le x 250) (Some x) None (λ (o : Option ℕ). o ≡ Some v → (◌≡◌ {A = Bool} true true) × (◌≡◌ {A = Option ℕ} None None) × (v ≤ 250) × (◌≡◌ {A = Option ℕ} (Some x) (Some v)))
+      (λ h q. let z : x ≡ v = cc in let le = leb-true x 250 h in (refl, refl, omega arith, q)) (λ _ q. absurd (none_some v refl q)) e
   due_facts true (Some x) w v e = absurd (none_some v refl e)
 
   tossed : (r : ℕ) → r < 15 → Tossed k (suc r)
   tossed r lt = record { ballot_below = small; round_from = omega arith; round_to = omega arith }
 
   -- a new share of the ballot is taken
-  pub share_part : (s : BallotState C) → Ready s → (r j v : ℕ) → let sh : Share = record { ballot = k; round = r; sender = j; value = v } in Takes b s.coin sh → ((j ≡ own) ⊎ okc k r j v) →
+  pub share_part : (s : BallotState C) → Ready s → (r j v : ℕ) → let sh : Share = record { ballot = k; round = r; sender = j; value = v } in Takes b s.coin sh → (((j ≡ own) × (b.own s.coin k r ≡ Some v)) ⊎ okc k r j v) →
       Piece s (record { ballot = s.ballot; rounds = s.rounds; coin = b.taken s.coin sh })
   share_part s rd r j v takes why = record {
     steps = x;
@@ -235,7 +236,7 @@ module _ {C : Type 0} (a : Acts) (b : Coin-acts C) (n own k : ℕ) (laws : Laws 
         where
           kept : (q : ℕ) → Tossed k q → (o : Option Bool) → b.shown s.coin k q ≡ o → 0 < bit_if_any o → bit_if_any (b.shown t.coin k q) ≡ bit_if_any o
           kept q to None e lo = absurd (omega arith)
-          kept q to (Some y) e lo = ap bit_if_any (keeps.shown_stays s.coin sh takes k q to y e)
+          kept q to (Some y) e lo = ap bit_if_any (bits_stay b keeps s.coin sh takes k q to y e)
 
       x : Steps a n own ok (view s) (view t)
       x = then_step (subst (Step a n own ok (view s)) (sym (view_same (view t) (record { rounds = (view s).rounds; shown = shown_in b k t.coin; decided = s.ballot.decided; delivered = d }) (same_rounds s t refl refl) (λ q. refl) refl refl)) (shows (shown_in b k t.coin) stay)) no_step
@@ -248,7 +249,7 @@ module _ {C : Type 0} (a : Acts) (b : Coin-acts C) (n own k : ℕ) (laws : Laws 
       go : (o : Option ℕ) → share_due b own k r s.coin ≡ o → Piece s (record { ballot = s.ballot; rounds = s.rounds; coin = said_share b own k r o s.coin })
       go None e = piece_none s rd
       go (Some v) e = let f = due_facts b.uses (b.taken_of s.coin k (suc r) own) (b.own s.coin k (suc r)) v e in
-          share_part s rd (suc r) own v (record { used = f.0; sound = rd.coin; lawful = record { tossed = tossed r lt; sender_below = own_small; value_to = f.2 }; new = f.1 }) (inl refl)
+          share_part s rd (suc r) own v (record { used = f.0; sound = rd.coin; lawful = record { tossed = tossed r lt; sender_below = own_small; value_to = f.2 }; new = f.1 }) (inl (refl, f.3))
 
   verdict_read : (s : BallotState C) (r : ℕ) → r < 16 → ((view s).rounds r).verdict ≡ verdict_at a b n own k r s
   verdict_read s r lt = ap (λ (m : Round). m.verdict) (round_read s r lt)

@@ -3,6 +3,7 @@ use Rattle.std.proofs.Common.{◌≡◌, ℕ, suc, ◌<◌, true, cond, ◌&&◌
 use Rattle.std.proofs.lemmas.Bool.{cond_both, cases_eq, eqb-true, and_parts, false≢true}
 use Rattle.coins.specs.Coins.{Acts as Coin-acts, Keeps as CoinKeeps, Takes, is_for}
 use Rattle.coins.specs.declared.share.Share.{Share}
+use Rattle.coins.proofs.Showing.{bits_stay}
 use Rattle.rules.specs.Rounds.{Round, Vote}
 use Rattle.rules.specs.Laws.{Acts, Laws}
 use Rattle.ballot_runs.specs.Views.{View, with_round}
@@ -56,10 +57,10 @@ pub round_bits : (v : View) (r : ℕ) (m : Round) → m.entered ≡ (v.rounds r)
 round_bits v r m e q = cond_both (eqb q r) m (v.rounds q) (λ (x : Round). x.entered ≡ (v.rounds q).entered) (λ t. e ∙ ap (λ (z : ℕ). (v.rounds z).entered) (sym (eqb-true q r t))) (λ _. refl)
 
 -- a coin that takes one share more
-pub coin_takes : {C : Type 0} (b : Coin-acts C) (own : ℕ) (ok : ℕ → ℕ → ℕ → ℕ → Type 0) → CoinKeeps b → (c : C) (s : Share) → Takes b c s → ((s.sender ≡ own) ⊎ ok s.ballot s.round s.sender s.value) → CoinMoves b own ok c (b.taken c s)
+pub coin_takes : {C : Type 0} (b : Coin-acts C) (own : ℕ) (ok : ℕ → ℕ → ℕ → ℕ → Type 0) → CoinKeeps b → (c : C) (s : Share) → Takes b c s → (((s.sender ≡ own) × (b.own c s.ballot s.round ≡ Some s.value)) ⊎ ok s.ballot s.round s.sender s.value) → CoinMoves b own ok c (b.taken c s)
 coin_takes b own ok keeps c s t why = record {
   sound = keeps.stays_sound c s t;
-  shown = λ k r to x e. keeps.shown_stays c s t k r to x e;
+  shown = bits_stay b keeps c s t;
   taken = λ k r j to l v e. keeps.adds_one c s t k r j to l ∙ old k r j v e;
   only = λ k r j to l v e. new k r j v (sym (keeps.adds_one c s t k r j to l) ∙ e);
   fixed = λ k r to. keeps.own_fixed c s t k r to;
@@ -77,8 +78,9 @@ coin_takes b own ok keeps c s t why = record {
     value_is : (v : ℕ) → Some s.value ≡ Some v → s.value ≡ v
     value_is v e = cc
 
-    new : (k r j v : ℕ) → cond (is_for s k r && eqb s.sender j) (Some s.value) (b.taken_of c k r j) ≡ Some v → (b.taken_of c k r j ≡ Some v) ⊎ ((j ≡ own) ⊎ ok k r j v)
-    new k r j v = cond_both (is_for s k r && eqb s.sender j) (Some s.value) (b.taken_of c k r j) (λ (o : Option ℕ). o ≡ Some v → (b.taken_of c k r j ≡ Some v) ⊎ ((j ≡ own) ⊎ ok k r j v))
-        (λ h e. let p = it k r j h in inr (⊎_elim (λ mine. inl (sym p.2 ∙ mine))
+    new : (k r j v : ℕ) → cond (is_for s k r && eqb s.sender j) (Some s.value) (b.taken_of c k r j) ≡ Some v → (b.taken_of c k r j ≡ Some v) ⊎ (((j ≡ own) × (b.own c k r ≡ Some v)) ⊎ ok k r j v)
+    new k r j v = cond_both (is_for s k r && eqb s.sender j) (Some s.value) (b.taken_of c k r j) (λ (o : Option ℕ). o ≡ Some v → (b.taken_of c k r j ≡ Some v) ⊎ (((j ≡ own) × (b.own c k r ≡ Some v)) ⊎ ok k r j v))
+        (λ h e. let p = it k r j h in inr (⊎_elim
+        (λ mine. inl (sym p.2 ∙ mine.0, ap (λ (z : ℕ). b.own c z r) (sym p.0) ∙ ap (λ (z : ℕ). b.own c s.ballot z) (sym p.1) ∙ mine.1 ∙ e))
         (λ w. inr (subst (ok k r j) (value_is v e) (subst (λ (z : ℕ). ok k r z s.value) p.2 (subst (λ (z : ℕ). ok k z s.sender s.value) p.1 (subst (λ (z : ℕ). ok z s.round s.sender s.value) p.0 w))))) why))
         (λ _ e. inl e)

@@ -1,20 +1,21 @@
 -- Where all the steps of a ballot change nothing, none of them does. Assumes nothing.
-use Rattle.std.proofs.Common.{◌≡◌, ℕ, zero, suc, ◌+◌, ◌<◌, ◌≤◌, Bool, true, false, ◌&&◌, List, set, get_or, nat_lt, eqb, refl, sym, ap, ◌∙◌, subst, ⊎_elim, arith, get_or-set_same}
-use Rattle.std.proofs.lemmas.Bool.{cond-true, cases_eq, cases_lt, lt-ltb, eq-eqb, and_from}
+use Rattle.std.proofs.Common.{◌≡◌, ℕ, zero, suc, ◌+◌, ◌<◌, ◌≤◌, Bool, true, false, ◌&&◌, List, set, get_or, Some, None, Option, is_some, nat_lt, nat_le, eqb, refl, sym, ap, ap₂, ◌∙◌, subst, ⊎_elim, arith, get_or-set_same}
+use Rattle.std.proofs.lemmas.Bool.{cond-true, cases_eq, cases_lt, lt-ltb, le-leb, eq-eqb, and_from}
 use Rattle.basis.specs.Halls.{largest}
 use Rattle.basis.specs.Steps.{taking}
-use Rattle.coins.specs.Coins.{Acts as Coin-acts, Keeps as CoinKeeps}
+use Rattle.coins.specs.Coins.{Acts as Coin-acts, Keeps as CoinKeeps, Takes, Tossed, is_for}
+use Rattle.coins.specs.declared.share.Share.{Share}
 use Rattle.rules.specs.Rounds.{Round, Vote, cleared}
 use Rattle.rules.specs.Laws.{Acts, Laws}
 use Rattle.openings.specs.Openings.{opening_settled}
 use Rattle.ballots.specs.States.{Opened, BallotState, place}
-use Rattle.ballots.specs.Ballots.{went_on, verdict_at, face as coin_face, ruled, shared, gone_on, later_settled, ballot_settled}
+use Rattle.ballots.specs.Ballots.{due_by, share_due, said_share, may_share, went_on, verdict_at, face as coin_face, ruled, shared, gone_on, later_settled, ballot_settled}
 use Rattle.ballots.specs.Listed.{repropose, reproposed, ballot_taken}
 use Rattle.ballots.proofs.Sweeps.{goes_from}
 use Rattle.ballots.proofs.Order.{listed_order}
 use Rattle.ballot_runs.specs.Views.{View, face}
 use Rattle.ballot_runs.specs.Claims.{RoundStays, Stays}
-use Rattle.vote_turns.proofs.Known.{view_at, stays_then}
+use Rattle.vote_turns.proofs.Known.{view_at, CoinMoves, stays_then}
 use Rattle.vote_turns.proofs.Pieces.{steps_kept}
 use Rattle.vote_turns.proofs.Parts.{Ready, Piece, piece_then, ready_after, round_read, face_read, reproposing, opening_stepped, opening_part_steps, ruled_part, shared_part, gone_part, later_part}
 
@@ -49,6 +50,11 @@ same_both v v' to from = record {
       votes = λ t u j. same_test (m.votes t u j) (m'.votes t u j) (x.votes t u j) (y.votes t u j) i;
       verdict = level m.verdict m'.verdict x.verdict y.verdict i;
     }
+
+-- an option in which there is something
+pub some_there : {X : Type 0} (o : Option X) → is_some o ≡ true → (x : X) × (o ≡ Some x)
+some_there None h = absurd (let z : ◌≡◌ {A = ℕ} 0 1 = cc in omega arith)
+some_there (Some x) h = (x, refl)
 
 module _ {C : Type 0} (a : Acts) (b : Coin-acts C) (n own k : ℕ) (laws : Laws a n own) (keeps : CoinKeeps b) (own_small : own < largest) (small : k < largest)
     (ok : ℕ → Vote → Type 0) (okc : ℕ → ℕ → ℕ → ℕ → Type 0) (d : Bool) where
@@ -85,13 +91,52 @@ module _ {C : Type 0} (a : Acts) (b : Coin-acts C) (n own k : ℕ) (laws : Laws 
   stage_back : (s x : BallotState C) → PieceIn s x → Back s x → x.ballot.stage ≡ s.ballot.stage
   stage_back s x p q = let l = p.later in let m = q.stage in omega arith
 
-  -- a round whose steps change nothing, and that is not to be gone on from
-  pub record RoundRests (s : BallotState C) (q : ℕ) : Type 0 where
+  -- the share of round suc q under the own number is there, and stays
+  abbrev pub SharedAt : C → ℕ → Type 0
+  SharedAt c q = is_some (b.taken_of c k (suc q) own) ≡ true
+
+  tossed : (q : ℕ) → q < 15 → Tossed k (suc q)
+  tossed q lt = record { ballot_below = small; round_from = omega arith; round_to = omega arith }
+
+  shared_stays : (c c' : C) → CoinMoves b own okc c c' → (q : ℕ) → q < 15 → SharedAt c q → SharedAt c' q
+  shared_stays c c' m q lt h = let x = some_there (b.taken_of c k (suc q) own) h in ap is_some (m.taken k (suc q) own (tossed q lt) own_small x.0 x.1)
+
+  -- so it is once its step is taken, in an entered round with its verdict
+  share_there : (r : ℕ) → r < 15 → (s : BallotState C) → ReadyIn s → r < s.ballot.stage → 0 < ((view s).rounds (suc r)).verdict → b.uses ≡ true → (v : ℕ) → b.own s.coin k (suc r) ≡ Some v → SharedAt (shared a b n own k r s).coin r
+  share_there r lt s rd en lo u v o =
+      subst (λ (c : C). SharedAt c r) (sym (cond-true (may_share b own k r s.ballot.stage (verdict_at a b n own k (suc r) s)) (said_share b own k r (share_due b own k r s.coin) s.coin) s.coin may))
+      (go (b.taken_of s.coin k (suc r) own) refl)
+    where
+      may : may_share b own k r s.ballot.stage (verdict_at a b n own k (suc r) s) ≡ true
+      may = and_from (nat_lt r s.ballot.stage) (nat_lt 0 (verdict_at a b n own k (suc r) s)) (lt-ltb r s.ballot.stage en)
+          (lt-ltb 0 (verdict_at a b n own k (suc r) s) (subst (λ (m : Round). 0 < m.verdict) (round_read a b n own k laws keeps own_small small ok okc d s (suc r) (omega arith)) lo))
+
+      sh : Share
+      sh = record { ballot = k; round = suc r; sender = own; value = v }
+
+      small_value : v ≤ 250
+      small_value = keeps.own_lawful s.coin rd.coin k (suc r) (tossed r lt) v o
+
+      go : (t : Option ℕ) → b.taken_of s.coin k (suc r) own ≡ t → SharedAt (said_share b own k r (share_due b own k r s.coin) s.coin) r
+      go (Some w) e =
+          let due : share_due b own k r s.coin ≡ None = cond-true b.uses (due_by (b.taken_of s.coin k (suc r) own) (b.own s.coin k (suc r))) None u ∙ ap (λ (t : Option ℕ). due_by t (b.own s.coin k (suc r))) e in
+          subst (λ (x : Option ℕ). SharedAt (said_share b own k r x s.coin) r) (sym due) (ap is_some e)
+      go None e =
+          let due : share_due b own k r s.coin ≡ Some v = cond-true b.uses (due_by (b.taken_of s.coin k (suc r) own) (b.own s.coin k (suc r))) None u ∙ ap₂ due_by e o ∙ cond-true (nat_le v 250) (Some v) None (le-leb v 250 small_value) in
+          let takes : Takes b s.coin sh = record { used = u; sound = rd.coin; lawful = record { tossed = tossed r lt; sender_below = own_small; value_to = small_value }; new = e } in
+          let its : (is_for sh k (suc r) && eqb own own) ≡ true = and_from (is_for sh k (suc r)) (eqb own own) (and_from (eqb k k) (eqb (suc r) (suc r)) (eq-eqb k k refl) (eq-eqb (suc r) (suc r) refl)) (eq-eqb own own refl) in
+          subst (λ (x : Option ℕ). SharedAt (said_share b own k r x s.coin) r) (sym due)
+          (ap is_some (keeps.adds_one s.coin sh takes k (suc r) own (tossed r lt) own_small ∙ cond-true (is_for sh k (suc r) && eqb own own) (Some v) (b.taken_of s.coin k (suc r) own) its))
+
+  -- a round whose steps change nothing, and that is not to be gone on from; c is the coin after all steps
+  pub record RoundRests (s : BallotState C) (c : C) (q : ℕ) : Type 0 where
     pub ruled : q < s.ballot.stage → a.steps n own ((view s).rounds (suc q)) ≡ (view s).rounds (suc q)
     pub gone : s.ballot.stage ≡ suc q → 0 < ((view s).rounds (suc q)).verdict → 0 < face (view s) (suc q) → ⊥
+    pub said : q < s.ballot.stage → 0 < ((view s).rounds (suc q)).verdict → b.uses ≡ true → (v : ℕ) → b.own s.coin k (suc q) ≡ Some v → SharedAt c q
 
-  rests_same : (s x : BallotState C) → Same (view s) (view x) → x.ballot.stage ≡ s.ballot.stage → (q : ℕ) → RoundRests x q → RoundRests s q
-  rests_same s x e st q y = record {
+  rests_same : (s x : BallotState C) (c : C) → Same (view s) (view x) → x.ballot.stage ≡ s.ballot.stage → (q : ℕ) → b.own x.coin k (suc q) ≡ b.own s.coin k (suc q) → RoundRests x c q → RoundRests s c q
+  rests_same s x c e st q f y = record {
+    said = λ lt lo u v o. y.said (omega arith) (subst (λ (m : Round). 0 < m.verdict) (sym (e.rounds (suc q))) lo) u v (f ∙ o);
     ruled = λ lt. subst (λ (m : Round). a.steps n own m ≡ m) (e.rounds (suc q)) (y.ruled (omega arith));
     gone = λ z lo sh. y.gone (st ∙ z) (subst (λ (m : Round). 0 < m.verdict) (sym (e.rounds (suc q))) lo) (subst (λ (f : ℕ). 0 < f) (sym (e.faces (suc q))) sh);
   }
@@ -119,7 +164,7 @@ module _ {C : Type 0} (a : Acts) (b : Coin-acts C) (n own k : ℕ) (laws : Laws 
       ∙ get_or-set_same s.rounds (place k r) m cleared (let h = rd.room in omega arith) in
       ap (a.steps n own) read ∙ sym new ∙ e.rounds (suc r)
 
-  later_rests : (u r : ℕ) → r + u ≤ 15 → (s : BallotState C) → ReadyIn s → Back s (later_settled a b n own k u r s) → (q : ℕ) → r ≤ q → q < r + u → RoundRests s q
+  later_rests : (u r : ℕ) → r + u ≤ 15 → (s : BallotState C) → ReadyIn s → Back s (later_settled a b n own k u r s) → (q : ℕ) → r ≤ q → q < r + u → RoundRests s (later_settled a b n own k u r s).coin q
   unfolding later_settled
   later_rests zero r le s rd back q lo hi = absurd (omega arith)
   later_rests (suc u) r le s rd back q lo hi =
@@ -147,21 +192,23 @@ module _ {C : Type 0} (a : Acts) (b : Coin-acts C) (n own k : ℕ) (laws : Laws 
       let e2 = same_back s s2 rd x12 b2 in
       let z2 = stage_back s s2 x12 b2 in
       ⊎_elim
-      (λ at. subst (RoundRests s) (sym at) (record {
+      (λ at. subst (RoundRests s t.coin) (sym at) (record {
         ruled = λ lt. ruled_same r (omega arith) s rd (same_back s s1 rd x1 b1) lt;
+        said = λ lt lo us v o. shared_stays s2.coin t.coin y34.coin r (omega arith)
+            (share_there r (omega arith) s1 rd1 lt (subst (λ (m : Round). 0 < m.verdict) (sym ((same_back s s1 rd x1 b1).rounds (suc r))) lo) us v o);
         gone = λ z v f. not_gone (suc r) (omega arith) s2 c23 (z2 ∙ z) (subst (λ (m : Round). 0 < m.verdict) (sym (e2.rounds (suc r))) v) (subst (λ (f : ℕ). 0 < f) (sym (e2.faces (suc r))) f);
       }))
-      (λ ne. rests_same s s3 (same_back s s3 rd x13 b3) (stage_back s s3 x13 b3) q (later_rests u (suc r) (omega arith) s3 rd3 c3 q (omega arith) (omega arith)))
+      (λ ne. rests_same s s3 t.coin (same_back s s3 rd x13 b3) (stage_back s s3 x13 b3) q (x13.coin.fixed k (suc q) (tossed q (omega arith))) (later_rests u (suc r) (omega arith) s3 rd3 c3 q (omega arith) (omega arith)))
       (cases_eq q r)
 
-  -- a ballot at rest
-  pub record Rests (s : BallotState C) : Type 0 where
+  -- a ballot at rest, with the coin after all steps
+  pub record Rests (s : BallotState C) (c : C) : Type 0 where
     pub again_still : taking (repropose own d) ((view s).rounds 0) ≡ (view s).rounds 0
     pub opening_still : opening_settled n own ((view s).rounds 0) ≡ (view s).rounds 0
     pub opening_gone : s.ballot.stage ≡ 0 → 0 < ((view s).rounds 0).verdict → ⊥
-    pub later : (q : ℕ) → q < 15 → RoundRests s q
+    pub later : (q : ℕ) → q < 15 → RoundRests s c q
 
-  settled_rests : (s : BallotState C) → ReadyIn s → Back s (ballot_settled a b n own k (reproposed own d s)) → Rests s
+  settled_rests : (s : BallotState C) → ReadyIn s → Back s (ballot_settled a b n own k (reproposed own d s)) → Rests s (ballot_settled a b n own k (reproposed own d s)).coin
   settled_rests s rd back =
       let s0 = reproposed own d s in
       let x0 = reproposing a b n own k laws keeps own_small small ok okc d s rd in
@@ -192,8 +239,10 @@ module _ {C : Type 0} (a : Acts) (b : Coin-acts C) (n own k : ℕ) (laws : Laws 
         again_still = ap (taking (repropose own d)) (read s) ∙ sym (read s0) ∙ e0.rounds 0;
         opening_still = ap (opening_settled n own) (sym (e0.rounds 0) ∙ read s0) ∙ sym (read s1) ∙ e1.rounds 0;
         opening_gone = λ z v. not_gone 0 (omega arith) s1 c12 (stage_back s s1 x01 b1 ∙ z) (subst (λ (m : Round). 0 < m.verdict) (sym (e1.rounds 0)) v) (omega arith);
-        later = λ q lt. rests_same s s2 e2 (stage_back s s2 x02 b2) q (later_rests 15 0 (omega arith) s2 rd2 c2 q (omega arith) (omega arith));
+        later = λ q lt. rests_same s s2 t.coin e2 (stage_back s s2 x02 b2) q (x02.coin.fixed k (suc q) (tossed q lt)) (later_rests 15 0 (omega arith) s2 rd2 c2 q (omega arith) (omega arith));
       }
 
-  pub taken_rests : (s : BallotState C) → ReadyIn s → Back s (ballot_taken a b n own k d s) → Rests s
-  taken_rests s rd back = settled_rests s rd (subst (Back s) (listed_order a b n own k d s).0 back)
+  pub taken_rests : (s : BallotState C) → ReadyIn s → Back s (ballot_taken a b n own k d s) → Rests s (ballot_taken a b n own k d s).coin
+  taken_rests s rd back =
+      let e = (listed_order a b n own k d s).0 in
+      subst (λ (x : BallotState C). Rests s x.coin) (sym e) (settled_rests s rd (subst (Back s) e back))

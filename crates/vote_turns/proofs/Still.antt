@@ -1,11 +1,11 @@
 -- Where looking changes nothing, nothing is left to do in any ballot. Assumes nothing.
-use Rattle.std.proofs.Common.{◌≡◌, ℕ, zero, suc, ◌<◌, ◌≤◌, Bool, true, false, nat_le, eqb, refl, sym, ap, ◌∙◌, subst, subst₂, ⊎_elim, arith}
+use Rattle.std.proofs.Common.{◌≡◌, ℕ, zero, suc, ◌<◌, ◌≤◌, Bool, true, false, Some, is_some, nat_le, eqb, refl, sym, ap, ◌∙◌, subst, subst₂, ⊎_elim, arith}
 use Rattle.std.proofs.lemmas.Bool.{cond-true, cond-false, cases_Bool, cases_eq, cases_lt, eq-eqb, eqb-true, ne_eqb, le-leb, and_from, and_parts, not_from_false, false≢true, lt-leb}
 use Rattle.basis.specs.Counts.{count}
 use Rattle.basis.specs.Halls.{quorum, largest}
 use Rattle.basis.specs.Steps.{taking}
 use Rattle.basis.proofs.Counts.{count_same}
-use Rattle.coins.specs.Coins.{Keeps as CoinKeeps}
+use Rattle.coins.specs.Coins.{Keeps as CoinKeeps, Tossed}
 use Rattle.rules.specs.Rounds.{Round, Vote}
 use Rattle.rules.specs.Laws.{Acts, Laws}
 use Rattle.phases.specs.Steps.{says, is_entered_lem}
@@ -20,18 +20,20 @@ use Rattle.vote_turns.proofs.Known.{view_at, view_of, stage_of, Well, VotesWell,
 use Rattle.vote_turns.proofs.Moved.{Moved, moved_stays, moved_then, ready_for, own_small, small, votes_view, votes_stage}
 use Rattle.vote_turns.proofs.Delivering.{sheets_moved}
 use Rattle.vote_turns.proofs.Taking.{proposed_all, bit_there, taken_moved, proposing_moved, voted_moved, looked_moved, looked_between}
-use Rattle.vote_turns.proofs.Resting.{Same, same_both, Rests, taken_rests}
+use Rattle.vote_turns.proofs.Resting.{Same, same_both, some_there, Rests, taken_rests}
 
--- what holds of a ballot whose steps change nothing, by its view and the round that it is in
-record Quiet (a : Acts) (n own : ℕ) (v : View) (stage : ℕ) : Type 0 where
+-- what holds of a ballot whose steps change nothing, by its view and the round that it is in, and of the shares of its rounds
+record Quiet (a : Acts) (n own : ℕ) (share : ℕ → Type 0) (v : View) (stage : ℕ) : Type 0 where
   again_still : v.delivered ≡ true → taking (again own) (v.rounds 0) ≡ v.rounds 0
   opening_still : opening_settled n own (v.rounds 0) ≡ v.rounds 0
   opening_gone : stage ≡ 0 → 0 < (v.rounds 0).verdict → ⊥
   ruled : (q : ℕ) → q < 15 → q < stage → a.steps n own (v.rounds (suc q)) ≡ v.rounds (suc q)
   gone : (q : ℕ) → q < 15 → stage ≡ suc q → 0 < (v.rounds (suc q)).verdict → 0 < face v (suc q) → ⊥
+  said : (q : ℕ) → q < 15 → q < stage → 0 < (v.rounds (suc q)).verdict → share q
 
-quiet_same : (a : Acts) (n own : ℕ) (v v' : View) (stage stage' : ℕ) → Same v v' → stage' ≡ stage → Quiet a n own v' stage' → Quiet a n own v stage
-quiet_same a n own v v' stage stage' e z y = record {
+quiet_same : (a : Acts) (n own : ℕ) (share : ℕ → Type 0) (v v' : View) (stage stage' : ℕ) → Same v v' → stage' ≡ stage → Quiet a n own share v' stage' → Quiet a n own share v stage
+quiet_same a n own share v v' stage stage' e z y = record {
+  said = λ q lt en lo. y.said q lt (omega arith) (subst (λ (m : Round). 0 < m.verdict) (sym (e.rounds (suc q))) lo);
   again_still = λ d. subst (λ (m : Round). taking (again own) m ≡ m) (e.rounds 0) (y.again_still (e.delivered ∙ d));
   opening_still = subst (λ (m : Round). opening_settled n own m ≡ m) (e.rounds 0) y.opening_still;
   opening_gone = λ z0 lo. y.opening_gone (z ∙ z0) (subst (λ (m : Round). 0 < m.verdict) (sym (e.rounds 0)) lo);
@@ -49,6 +51,9 @@ pub record Still {R C : Type 0} (g : Setting R C) (n own : ℕ) (h : Holding R C
   -- first vote 1 is said of a delivered slot, and with a quorum delivered the ballot is proposed in
   pub said_again : (view_of g n h k).delivered ≡ true → 0 < ((view_of g n h k).rounds 0).entered → ((view_of g n h k).rounds 0).votes 32 2 own ≡ true
   pub proposed : quorum n ≤ count n (λ l. is_delivered l h) → 0 < ((view_of g n h k).rounds 0).entered
+  -- in each entered round with its verdict the own share is said, where the coin uses shares and has one
+  pub shared : (q : ℕ) → q < 15 → 0 < ((view_of g n h k).rounds (suc q)).entered → 0 < ((view_of g n h k).rounds (suc q)).verdict →
+      g.coins.uses ≡ true → (v : ℕ) → g.coins.own h.coin k (suc q) ≡ Some v → is_some (g.coins.taken_of h.coin k (suc q) own) ≡ true
 
 -- where saying the first vote again changes nothing it is said
 again_said : (own : ℕ) (m : Round) → 0 < m.entered → taking (again own) m ≡ m → m.votes 32 2 own ≡ true
@@ -106,20 +111,25 @@ module _ {R C : Type 0} (g : Setting R C) (n own : ℕ) (ok : ℕ → ℕ → Vo
       omega arith))
       (λ no. no) (cases_Bool (may_propose g n own k s))
 
+  -- the share of a round is taken by c', where c has an own one
+  abbrev Shares : ℕ → C → C → ℕ → Type 0
+  Shares k c c' q = g.coins.uses ≡ true → (v : ℕ) → g.coins.own c k (suc q) ≡ Some v → is_some (g.coins.taken_of c' k (suc q) own) ≡ true
+
   -- so the steps of the ballot change nothing
-  quiet_at : (k : ℕ) → k < n → (s : Holding R C) → VotesWell g n own s → Returns s (votes_taken g n own k s) → Quiet g.rule n own (view_of g n s k) (stage_of k s)
-  quiet_at k lk s w r = subst (λ (v : View). Quiet g.rule n own v (stage_of k s)) (sym (view_in g n s k lk)) (record {
+  quiet_at : (k : ℕ) → k < n → (s : Holding R C) → VotesWell g n own s → Returns s (votes_taken g n own k s) → Quiet g.rule n own (Shares k s.coin (votes_taken g n own k s).coin) (view_of g n s k) (stage_of k s)
+  quiet_at k lk s w r = subst (λ (v : View). Quiet g.rule n own (Shares k s.coin (votes_taken g n own k s).coin) v (stage_of k s)) (sym (view_in g n s k lk)) (record {
     again_still = λ e. subst (λ (d : Bool). taking (repropose own d) (v.rounds 0) ≡ v.rounds 0) e x.again_still;
     opening_still = x.opening_still;
     opening_gone = x.opening_gone;
     ruled = λ q lt. (x.later q lt).ruled;
     gone = λ q lt. (x.later q lt).gone;
+    said = λ q lt. (x.later q lt).said;
   })
     where
       v : View
       v = view_at g.coins k (is_delivered k s) (state_of k s)
 
-      x : Rests g.rule g.coins n own k laws keeps (own_small g n own ok okc laws keeps most own_low) (small g n own ok okc laws keeps most own_low k lk) (ok k) okc (is_delivered k s) (state_of k s)
+      x : Rests g.rule g.coins n own k laws keeps (own_small g n own ok okc laws keeps most own_low) (small g n own ok okc laws keeps most own_low k lk) (ok k) okc (is_delivered k s) (state_of k s) (votes_taken g n own k s).coin
       x = taken_rests g.rule g.coins n own k laws keeps (own_small g n own ok okc laws keeps most own_low) (small g n own ok okc laws keeps most own_low k lk) (ok k) okc (is_delivered k s) (state_of k s)
           (ready_for g n own ok okc laws keeps most own_low k lk s w)
           (record {
@@ -179,8 +189,8 @@ module _ {R C : Type 0} (g : Setting R C) (n own : ℕ) (ok : ℕ → ℕ → Vo
     none : may_propose g n own k mid ≡ false
     none = not_proposing k lk mid first.well on
 
-    quiet : Quiet g.rule n own (view_of g n h k) (stage_of k h)
-    quiet = quiet_same g.rule n own (view_of g n h k) (view_of g n mid k) (stage_of k h) (stage_of k mid) (same k) same_stage
+    quiet : Quiet g.rule n own (Shares k mid.coin (votes_taken g n own k mid).coin) (view_of g n h k) (stage_of k h)
+    quiet = quiet_same g.rule n own (Shares k mid.coin (votes_taken g n own k mid).coin) (view_of g n h k) (view_of g n mid k) (stage_of k h) (stage_of k mid) (same k) same_stage
         (quiet_at k lk mid first.well (subst (Returns mid) (cond-false (may_propose g n own k mid) (taken_below g n own n (proposed_below g n own n mid)) (votes_taken g n own k mid) none) on))
 
     known : Well g.rule n own (view_of g n h k) (stage_of k h)
@@ -208,6 +218,15 @@ module _ {R C : Type 0} (g : Setting R C) (n own : ℕ) (ok : ℕ → ℕ → Vo
         false≢true (sym none ∙ and_from (eqb (ballot_at k mid).opening.entered 0) (nat_le (quorum n) (count n (λ l. is_delivered l mid))) (eq-eqb _ _ z) (le-leb _ _ le))))
         (cases_lt 0 ((view_of g n h k).rounds 0).entered)
 
+    -- the share of a round that is there after the ballot's steps is there, since looking changes nothing
+    still_shared : (q : ℕ) → q < 15 → 0 < ((view_of g n h k).rounds (suc q)).entered → 0 < ((view_of g n h k).rounds (suc q)).verdict → Shares k h.coin h.coin q
+    still_shared q lt en lo u v o =
+        let to : Tossed k (suc q) = record { ballot_below = small g n own ok okc laws keeps most own_low k lk; round_from = omega arith; round_to = omega arith } in
+        let x = quiet.said q lt (reached q (omega arith) en) lo u v (first.coin.fixed k (suc q) to ∙ o) in
+        let y = some_there (g.coins.taken_of after.coin k (suc q) own) (subst (λ (t : Holding R C). is_some (g.coins.taken_of t.coin k (suc q) own) ≡ true)
+        (sym (cond-false (may_propose g n own k mid) (taken_below g n own n (proposed_below g n own n mid)) (votes_taken g n own k mid) none)) x) in
+        ap is_some (subst (λ (t : Holding R C). g.coins.taken_of t.coin k (suc q) own ≡ Some y.0) e (rest.coin.taken k (suc q) own to (own_small g n own ok okc laws keeps most own_low) y.0 y.1))
+
     pub still : Still g n own h k
     still = record {
       steps = still_steps;
@@ -215,4 +234,5 @@ module _ {R C : Type 0} (g : Setting R C) (n own : ℕ) (ok : ℕ → ℕ → Vo
       gone_on = λ r lt lo ver sh. known.entered r lt (still_over r (omega arith) lo ver sh);
       said_again = λ d lo. again_said own ((view_of g n h k).rounds 0) lo (quiet.again_still d);
       proposed = still_proposed;
+      shared = still_shared;
     }

@@ -1,3 +1,4 @@
+-- The ones of a mask are counted, by rows and by columns alike.
 use Rattle.std.proofs.Common.{arith}
 use Rattle.basis.proofs.Counts.{ones_count}
 use Rattle.basis.proofs.Totals.{rows_columns}

@@ -1,7 +1,6 @@
 -- The tills so far are opened.
-use Rattle.std.proofs.Common.{replicate}
 use Rattle.halls.specs.Plays.{OpenedTo}
 use Rattle.halls.proofs.opening.open_tills.Given as goal
 
 abbrev pub invariant-loop-number : goal.invariant-loop-number
-invariant-loop-number l = OpenedTo l.n (record { numbers = replicate 16 l.coin }) l.number l.tills.items
+invariant-loop-number l = OpenedTo l.n l.coin l.number l.tills.items

@@ -14,5 +14,5 @@ invariant_of-self c =
       played = ∥∥₁_map h.played (λ (p : Played h.rule h.n h.tills.items). played_on h.rule h.n h.tills.items c.close_at.new.tills.items p c.close_at.ensures.goes_on);
     }
 
-pub returns-then-number-self : goal.returns-then-number-self
-returns-then-number-self c = continued_none c.args.self.now.rule c.args.self.now.n c.args.self.now.tills.items
+pub returns-then-number-self-clause-continued : goal.returns-then-number-self-clause-continued
+returns-then-number-self-clause-continued c = continued_none c.args.self.now.rule c.args.self.now.n c.args.self.now.tills.items

@@ -1,8 +1,7 @@
 -- The numbers are those of the replica.
-use Rattle.std.proofs.Common.{◌≡◌, ap, ◌∙◌, sym}
+use Rattle.std.proofs.Common.{ap, ◌∙◌}
 use Rattle.basis.specs.declared.member.Member.{Member as Numbered}
 use Rattle.outcomes.specs.Hearing.{hear_answer_lem, hear_after}
-use Rattle.outcomes.specs.Holdings.{Life}
 use Rattle.outcomes.specs.Tables.{setting, holding}
 use Rattle.replica.proofs.offered.Offered.hear.Goals as goal
 

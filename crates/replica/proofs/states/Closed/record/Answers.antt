@@ -1,6 +1,4 @@
 -- The claims on evenings, from the laws of the kind of sheet, the rule and the coin.
-use Rattle.std.proofs.Common.{◌≡◌}
-use Rattle.broadcast.specs.Claims.{RowLaws}
 use Rattle.claims.proofs.Filling.{evenings_agree, evenings_fill}
 use Rattle.claims.proofs.Resting.{rest_if_rounds_end}
 use Rattle.claims.proofs.Sayable.{two_sayable, three_sayable}

@@ -1,0 +1,2 @@
+-- Lemmas on every coin.
+pub mod Showing

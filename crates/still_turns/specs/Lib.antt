@@ -1,0 +1,2 @@
+-- When looking changes nothing.
+pub mod Still
