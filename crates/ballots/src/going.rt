@@ -50,6 +50,9 @@ pub fn settle_round<R: Rule, C: Coin>(
     requires { 15 * at.slot + 15 ≤ length rounds.old }
     ensures { record { ballot = ballot_meaning ballot.exit.now; rounds = map R.Rule.meaning rounds.new; coin = coin.new } ≡ round_settled R.Rule.acts C.Coin.acts member.n member.own at.slot at.later (record { ballot = ballot_meaning ballot.entry.now; rounds = map R.Rule.meaning rounds.old; coin = coin.old }) }
 {
+    if !ballot.stage.has_entered(at.later) {
+        return;
+    }
     let row = &mut rounds[row_of(at.slot, at.later)];
     take_rule_steps::<R>(row, ballot.stage, member, at.later);
     let verdict = R::verdict(row);

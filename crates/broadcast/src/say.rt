@@ -1,5 +1,5 @@
 // What a replica has said of sheets, in the order of positions.
-ghost use Rattle.std.specs.Prelude.{◌≡◌, ◌<◌, ◌≤◌, length};
+ghost use Rattle.std.specs.Prelude.{◌≡◌, ℕ, ◌+◌, ◌*◌, ◌<◌, ◌≤◌, length};
 ghost use Rattle.std.specs.Option.{option_map};
 ghost use Rattle.messages.specs.Writing.{on_sheet};
 ghost use Rattle.slots.specs.Places.{all_places};
@@ -10,6 +10,20 @@ use basis::member::Member;
 use messages::message::{Message, Phase};
 use sheets::sheet::Sheet;
 use slots::places::sheet_from;
+
+// How many positions a tag has, and how many a slot under it.
+pub const OF_TAG: u32 = 0x1_0000;
+
+pub const OF_SLOT: u32 = 0x1000;
+
+// How many slots under a tag lie wholly below a position, so that a search passes over them.
+pub fn slots_below(from: u32, member: Member, tag: u8) -> u8
+    ensures most { result ≤ member.n }
+    ensures below { (k : ℕ) → k < result → (tag * 16 + k) * 4096 + 4096 ≤ from }
+{
+    let start = u32::from(tag) * OF_TAG;
+    (from.saturating_sub(start) / OF_SLOT).min(u32::from(member.n)) as u8
+}
 
 // The sheets that a replica has recorded, of which those under its own number are said.
 #[derive(Drop)]
@@ -42,11 +56,12 @@ impl<S: Sheet> Recorded<'_, S> {
             .filter(|message| message.position() >= from)
     }
 
-    // The first message of a phase at or after a position. A loop: with `find_map` the proof did not close.
+    // The first message of a phase at or after a position, from the slot on that does not lie wholly below it.
+    // A loop: with `find_map` the proof did not close.
     fn earliest_in(&self, phase: Phase, from: u32) -> Option<Message<S>>
         ensures { option_map (on_sheet S.Sheet.bytes) result ≡ earliest S.Sheet.rows self.now.member.n self.now.member.own self.now.places.now phase from self.now.member.n }
     {
-        for slot in 0..self.member.n {
+        for slot in slots_below(from, self.member, phase.tag())..self.member.n {
             if let Some(message) = self.message_from(phase, slot, from) {
                 return Some(message);
             }

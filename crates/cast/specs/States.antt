@@ -1,5 +1,7 @@
 -- What the calls of a till come to in each of its states. Assumes nothing.
-use Rattle.std.specs.Prelude.{ℕ, Bool, true, false, List, None, Ok, Err, Option, Result}
+use Rattle.std.specs.Prelude.{ℕ, Bool, true, false, not, ◌&&◌, List, Some, None, Ok, Err, Option, Result, slice_get}
+use Rattle.std.specs.Option.{option_map}
+use Rattle.basis.specs.Members.{Numbers}
 use Rattle.basis.specs.Refusals.{Refused, number_of}
 use Rattle.messages.specs.Reading.{syntax}
 use Rattle.messages.specs.Tags.{basic_tags}
@@ -7,6 +9,7 @@ use Rattle.sheets.specs.OfTakings.{takings_lawful, takings_rows}
 use Rattle.sheets.specs.declared.kinds.TakingsRow.{TakingsRow}
 use Rattle.slots.specs.Steps.{Slots, delivered_sheet_lem}
 use Rattle.broadcast.specs.Calls.{of_hall, offer_after, hear_answer}
+use Rattle.broadcast.specs.Opening.{fresh_numbers}
 use Rattle.broadcast.specs.Saying.{say_answer, say_output}
 use Rattle.basis.specs.declared.heard.Heard.{Heard}
 use Rattle.broadcast.specs.Calls as calls
@@ -14,6 +17,7 @@ use Rattle.cast.specs.declared.till.Fault.{Fault}
 use Rattle.cast.specs.declared.till.Fault.TheVariants as fault
 use Rattle.cast.specs.declared.till.State.{State}
 use Rattle.cast.specs.declared.till.State.TheVariants.{Fresh, Running, Gone}
+use Rattle.cast.specs.declared.till.Till.{Till}
 
 -- it may offer
 abbrev pub is_fresh : State → Bool
@@ -25,6 +29,22 @@ abbrev pub is_running : State → Bool
 is_running (Fresh f) = false
 is_running (Running r) = true
 is_running Gone = false
+
+-- the numbers of a till's replica; of none while there is none
+abbrev pub numbers_in : State → Option Numbers
+numbers_in (Fresh f) = Some (fresh_numbers f)
+numbers_in (Running r) = Some (record { n = r.member.n; own = r.member.own })
+numbers_in Gone = None
+
+-- whether a till has offered, where there is such a till
+abbrev pub has_offered_at : List Till → ℕ → Option Bool
+has_offered_at ts j = option_map (λ t. is_running t.state) (slice_get ts j)
+
+-- a till may be faulty towards another: the one has not offered, and the other has
+abbrev pub forging : Option Bool → Option Bool → Bool
+forging None b = false
+forging (Some a) None = false
+forging (Some a) (Some b) = not a && b
 
 -- what an offer leaves of the tables: only a fresh replica changes them
 abbrev pub offer_left : State → ℕ → List ℕ → Slots TakingsRow → Slots TakingsRow

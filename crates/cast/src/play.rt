@@ -1,9 +1,12 @@
 // The hall at play: its tills offer, hear what faulty tills say, and hear each other until nothing is new.
-ghost use Rattle.std.specs.Prelude.{◌≡◌, ◌+◌, ◌*◌};
+ghost use Rattle.std.specs.Prelude.{◌≡◌, ◌+◌, ◌*◌, T};
+ghost use Rattle.basis.specs.Halls.{listed};
+ghost use Rattle.cast.specs.States.{has_offered_at, forging};
 
 use crate::script::{Forgery, Offer};
 use crate::till::{Fault, Till};
 use basis::heard::Heard;
+use basis::member::Member;
 use messages::message::Message;
 use messages::write::TAKINGS_MESSAGE;
 use sheets::kinds::Takings;
@@ -15,6 +18,7 @@ use std::alloc::Global;
 pub struct Hall {
     n: u8,
     tills: Vec<Till>,
+    ghost listed: { T (listed n) },
 }
 
 // How many sweeps a rest took, and how many messages were new in it.
@@ -25,9 +29,10 @@ pub struct Rested {
 }
 
 impl Hall {
-    // Opens all tills of a hall of n. The first is opened whatever n is, and refused where no hall has that size.
+    // Opens all tills of a hall of n; refused where no hall has that size.
     pub fn open(heap: Global, n: u8) -> Result<Hall, Fault> {
-        let tills = (0..n.max(1))
+        let Member { n, .. } = Member::new(n, 0)?;
+        let tills = (0..n)
             .map(|number| Till::open(heap, n, number))
             .try_collect(heap)?;
         Ok(Hall { n, tills })
@@ -56,7 +61,9 @@ impl Hall {
     }
 
     // Whether a till may be faulty towards another: the one has not offered, and the other has.
-    pub fn may_forge(&self, forgery: Forgery) -> bool {
+    pub fn may_forge(&self, forgery: Forgery) -> bool
+        ensures { result ≡ forging (has_offered_at self.now.tills.items forgery.from) (has_offered_at self.now.tills.items forgery.to) }
+    {
         let from = self.tills.get(usize::from(forgery.from));
         let to = self.tills.get(usize::from(forgery.to));
         match (from, to) {

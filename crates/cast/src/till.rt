@@ -1,9 +1,9 @@
 // One till of the hall: its replica, in its state, and the tables that the till lends it.
-ghost use Rattle.std.specs.Prelude.{◌≡◌, true, false, is_ok, Err};
+ghost use Rattle.std.specs.Prelude.{◌≡◌, true, false, is_ok, Some, Err, IfOk};
 ghost use Rattle.std.specs.Option.{option_map};
 ghost use Rattle.sheets.specs.OfTakings.{takings_bytes};
 ghost use Rattle.cast.specs.declared.till.Fault.TheVariants.{Refused};
-ghost use Rattle.cast.specs.States.{is_fresh, is_running, offer_left, delivered_of, fault_told, heard_of, said_of, said_output};
+ghost use Rattle.cast.specs.States.{is_fresh, is_running, numbers_in, offer_left, delivered_of, fault_told, heard_of, said_of, said_output};
 
 use crate::script::Amount;
 use basis::heard::Heard;
@@ -69,6 +69,7 @@ impl State {
     ) -> (State, Result<(), Fault>)
         ensures again { is_fresh self ≡ false → result ≡ (self, Err Fault.Misplaced) }
         ensures first { is_fresh self ≡ true → is_running result.0 ≡ is_ok result.1 }
+        ensures numbers { numbers_in result.0 ≡ numbers_in self }
         ensures left { record { records = records.exit.now; places = places.new } ≡ offer_left self rounds (takings_bytes sheet.now) (record { records = records.entry.now; places = places.old }) }
     {
         match self {
@@ -93,7 +94,10 @@ pub struct Till {
 
 impl Till {
     // Opens till `number` of a hall of n, with tables of its own.
-    pub fn open(heap: Global, n: u8, number: u8) -> Result<Till, Fault> {
+    pub fn open(heap: Global, n: u8, number: u8) -> Result<Till, Fault>
+        ensures numbers { IfOk result (λ t. numbers_in t.state ≡ Some (record { n = n; own = number })) }
+        ensures number { IfOk result (λ t. t.number ≡ number) }
+    {
         let size = usize::from(n);
         let mut records = vec![in heap; Slot { delivered: None }; size]?;
         let rounds = usize::from(LAST_ROUND) * size;
@@ -130,6 +134,7 @@ impl Till {
     pub fn offer(&mut self, amount: Amount) -> Result<(), Fault>
         ensures again { is_running self.old.state ≡ true → result ≡ Err Fault.Misplaced }
         ensures done { is_ok result ≡ true → is_running self.new.state ≡ true }
+        ensures numbers { numbers_in self.new.state ≡ numbers_in self.old.state }
     {
         if self.has_offered() {
             return Err(Fault::Misplaced);

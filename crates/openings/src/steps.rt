@@ -19,9 +19,9 @@ pub fn may_join_one(round: &PhasedRound, member: Member) -> bool
     ensures { result ≡ (join_one member.n member.own).applies (meaning_of round.now) }
 {
     round.is_entered()
-        & (has_honest(size_in(round.first.one, member.n), member.n)
-            & (!contains(round.first.one, member.own)
-                | !round.has_voted(VotePhase::Second, member.own)))
+        && ((!contains(round.first.one, member.own)
+            || !round.has_voted(VotePhase::Second, member.own))
+            && has_honest(size_in(round.first.one, member.n), member.n))
 }
 
 // Says the first vote 1 that f + 1 have cast, and, other than in later rounds, the second vote 1, unless one is said.
@@ -40,7 +40,7 @@ pub fn may_admit(round: &PhasedRound, member: Member, bit: bool) -> bool
     ensures { result ≡ (admit member.n member.own (bit_set bit)).applies (meaning_of round.now) }
 {
     round.is_entered()
-        & (round.admits(member.n, bit) & !round.has_voted(VotePhase::Second, member.own))
+        && (!round.has_voted(VotePhase::Second, member.own) && round.admits(member.n, bit))
 }
 
 // Says the second vote for a bit that is admitted by 2f + 1.
@@ -56,7 +56,7 @@ pub fn admit_bit(round: &mut PhasedRound, member: Member, bit: bool)
 pub fn may_leave(round: &PhasedRound, member: Member) -> bool
     ensures { result ≡ (leave member.n member.own).applies (meaning_of round.now) }
 {
-    round.is_entered() & (may_leave_by(round, member.n) & round.lacks_verdict())
+    round.is_entered() && (round.lacks_verdict() && may_leave_by(round, member.n))
 }
 
 // Leaves the round with the bit that 2f + 1 support, or with both.

@@ -1,12 +1,13 @@
 -- A vote recorded in the masks is a vote added to the meaning. Assumes nothing.
-use Rattle.std.proofs.Common.{◌≡◌, ℕ, ◌^◌, Bool, true, false, cond, ◌&&◌, ◌||◌, eqb, nat_lt, Option, None, Some, Ok, sym, refl, ap, ◌∙◌, ap₂}
+use Rattle.std.proofs.Common.{◌≡◌, ℕ, ◌^◌, ◌≤◌, Bool, true, false, cond, ◌&&◌, ◌||◌, eqb, leb, nat_lt, Option, None, Some, Ok, sym, refl, ap, ◌∙◌, ap₂, arith}
 use mathlib.Core.Path.{fun_ext}
 use lib.Bits.{bit_or}
-use Rattle.std.proofs.lemmas.Bool.{eqb-true, cond-false}
+use Rattle.std.proofs.lemmas.Bool.{eqb-true, leb-true, cond-false, both_ways}
 use Rattle.std.proofs.lemmas.Option.{none-some}
 use Rattle.basis.specs.declared.heard.Heard.TheVariants.{New}
-use Rattle.basis.specs.Counts.{has}
-use Rattle.basis.proofs.Counts.{has_or, has_one, has_none}
+use Rattle.basis.specs.Counts.{has, count}
+use Rattle.basis.specs.Halls.{beyond_faults}
+use Rattle.basis.proofs.Counts.{has_or, has_one, has_none, count_some}
 use Rattle.messages.specs.declared.message.BitSet.{BitSet}
 use Rattle.messages.specs.declared.message.BitSet.TheVariants.{Zero, One, Both}
 use Rattle.messages.specs.Tags.{bits_number}
@@ -160,3 +161,14 @@ where_has false x j = has_none j ∙ and_false (has x j)
 
 pub chosen : (a b : Bool) (y z j : ℕ) → has (bit_or (cond a y 0) (cond b z 0)) j ≡ ((has y j && a) || (has z j && b))
 chosen a b y z j = has_or (cond a y 0) (cond b z 0) j ∙ ap₂ (λ (p q : Bool). p || q) (where_has a y j) (where_has b z j)
+
+-- f + 1 are not in an empty set
+pub none_honest : (n z : ℕ) → z ≡ 0 → leb (beyond_faults n) (count n (has z)) ≡ false
+none_honest n z h = go (leb (beyond_faults n) (count n (has z))) refl
+  where
+    go : (b : Bool) → leb (beyond_faults n) (count n (has z)) ≡ b → b ≡ false
+    go false e = refl
+    go true e =
+        let lo : beyond_faults n ≤ count n (has z) = leb-true _ _ e in
+        let first = count_some n (has z) (omega arith) in
+        absurd (both_ways (has z first.0) (ap (λ (x : ℕ). has x first.0) h ∙ has_none first.0) first.2)

@@ -1,7 +1,7 @@
 // Votes that count: those that lie within the set of admitted bits.
 ghost use Rattle.std.specs.Prelude.{◌≡◌, ℕ, ◌+◌, ◌&&◌, ◌||◌, leb, if◌then◌else◌, ◌==◌, nat_le};
 ghost use Rattle.basis.specs.Counts.{has, count};
-ghost use Rattle.basis.specs.Halls.{quorum};
+ghost use Rattle.basis.specs.Halls.{quorum, beyond_faults};
 ghost use Rattle.rules.specs.Rounds.{bit_set, set_if_any};
 ghost use Rattle.phases.specs.Phases.{tag_of};
 ghost use Rattle.phases.specs.Records.{meaning_of};
@@ -9,7 +9,7 @@ ghost use Rattle.phases.specs.Steps.{admitted, counted, enough, union};
 
 use crate::round::PhasedRound;
 use crate::vote_phase::VotePhase;
-use basis::replicas::{ReplicaSet, is_quorum, size_in};
+use basis::replicas::{ReplicaSet, has_honest, is_quorum, size_in};
 use messages::message::BitSet;
 
 // Whose counted votes hold 0, and whose hold 1.
@@ -24,6 +24,13 @@ pub fn where_set(flag: bool, members: ReplicaSet) -> ReplicaSet
     ensures { result ≡ (if flag then members else 0) }
 {
     if flag { members } else { 0 }
+}
+
+// Whether f + 1 replicas of a hall of n are in a set. That nobody is in it is seen without counting.
+pub fn holds_honest(members: ReplicaSet, n: u8) -> bool
+    ensures { result ≡ nat_le (beyond_faults n) (count n (has members)) }
+{
+    members != 0 && has_honest(size_in(members, n), n)
 }
 
 impl PhasedRound {

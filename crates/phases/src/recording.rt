@@ -58,10 +58,11 @@ impl PhasedRound {
     }
 
     // Whether some vote of a sender is recorded in a phase.
+    #[tactic(auto, using(basis::proofs::Counts::has_or))]
     pub fn has_voted(&self, phase: VotePhase, sender: u8) -> bool
         ensures { result ≡ voted (tag_of phase) sender (meaning_of self.now) }
     {
         let cast = self.votes_in(phase);
-        contains(cast.zero, sender) | (contains(cast.one, sender) | contains(cast.both, sender))
+        contains(cast.zero | (cast.one | cast.both), sender)
     }
 }

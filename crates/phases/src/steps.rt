@@ -6,10 +6,11 @@ ghost use Rattle.phases.specs.Phases.{tag_of};
 ghost use Rattle.phases.specs.Records.{meaning_of};
 ghost use Rattle.phases.specs.Steps.{join, second, third, conclude, is_entered_lem, lowest_admitted, enough};
 
+use crate::counting::holds_honest;
 use crate::round::PhasedRound;
 use crate::vote_phase::VotePhase;
 use basis::member::Member;
-use basis::replicas::{contains, has_honest, size_in};
+use basis::replicas::contains;
 use messages::message::BitSet;
 
 impl PhasedRound {
@@ -18,8 +19,7 @@ impl PhasedRound {
         ensures { result ≡ (join member.n member.own (bit_set bit)).applies (meaning_of self.now) }
     {
         let cast = self.first.cast_for(BitSet::from(bit));
-        self.is_entered()
-            & (has_honest(size_in(cast, member.n), member.n) & !contains(cast, member.own))
+        self.is_entered() && (!contains(cast, member.own) && holds_honest(cast, member.n))
     }
 
     // Says the first vote that f + 1 replicas have cast.
@@ -36,8 +36,8 @@ impl PhasedRound {
         ensures { result ≡ (second member.n member.own).applies (meaning_of self.now) }
     {
         self.is_entered()
-            & ((self.admits(member.n, false) | self.admits(member.n, true))
-                & !self.has_voted(VotePhase::Second, member.own))
+            && (!self.has_voted(VotePhase::Second, member.own)
+                && (self.admits(member.n, false) || self.admits(member.n, true)))
     }
 
     // Says the second vote, for the lowest admitted bit.
@@ -55,8 +55,8 @@ impl PhasedRound {
         ensures { result ≡ (third member.n member.own).applies (meaning_of self.now) }
     {
         self.is_entered()
-            & (self.has_enough(member.n, VotePhase::Second)
-                & !self.has_voted(VotePhase::Third, member.own))
+            && (!self.has_voted(VotePhase::Third, member.own)
+                && self.has_enough(member.n, VotePhase::Second))
     }
 
     // Says the third vote, for the set of those bits.
@@ -75,7 +75,7 @@ impl PhasedRound {
     pub fn may_conclude(&self, member: Member, phase: VotePhase) -> bool
         ensures { result ≡ (conclude member.n member.own (tag_of phase)).applies (meaning_of self.now) }
     {
-        self.is_entered() & (self.has_enough(member.n, phase) & self.lacks_verdict())
+        self.is_entered() && (self.lacks_verdict() && self.has_enough(member.n, phase))
     }
 
     // Takes the verdict, the union of those votes.

@@ -1,5 +1,5 @@
 -- The first answer that is there, number by number. Assumes nothing.
-use Rattle.std.proofs.Common.{◌≡◌, ℕ, zero, suc, ◌+◌, ◌<◌, Some, None, Option, sym, ap, ◌∙◌, ap₂, ⊎_elim, add-one, arith}
+use Rattle.std.proofs.Common.{◌≡◌, ℕ, zero, suc, ◌+◌, ◌<◌, Some, None, Option, refl, sym, ap, ◌∙◌, ap₂, ⊎_elim, add-one, arith}
 use Rattle.std.proofs.lemmas.Bool.{cases_eq}
 use Rattle.slots.specs.Places.{or_else}
 use Rattle.outcomes.specs.Saying.{first_of}
@@ -18,3 +18,9 @@ module _ {X : Type 0} (f : ℕ → Option X) where
       (λ e. here ∙ sym (ap₂ or_else (ap (first_of f) (sym e) ∙ none) (ap f (sym e))))
       (λ ne. ap (λ a. or_else a (f m)) (this_one i m x (omega arith) none here))
       (cases_eq i m)
+
+  -- none of the numbers below i
+  pub none_all : (i : ℕ) → ((j : ℕ) → j < i → f j ≡ None) → first_of f i ≡ None
+  unfolding first_of
+  none_all zero none = refl
+  none_all (suc i) none = ap₂ or_else (none_all i (λ j l. none j (omega arith))) (none i (omega arith))

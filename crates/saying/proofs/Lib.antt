@@ -5,5 +5,6 @@ pub mod Positions
 pub mod SaidVotes
 pub mod SaidShares
 pub mod SaidSheets
+pub mod PassedOver
 pub mod AllSaid
 pub mod TheFirst

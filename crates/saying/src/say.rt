@@ -8,6 +8,7 @@ ghost use Rattle.outcomes.specs.Tables.{setting, holding};
 ghost use Rattle.outcomes.specs.Saying.{first_of, first_if_used, first_vote, next_message, say_answer, say_output};
 ghost use Rattle.saying.specs.SaysTheFirst.{SaysTheFirst};
 
+use crate::below::{FIRST_TAG, TAGS, tags_below};
 use crate::view::SayingView;
 use basis::member::Member;
 use basis::refusal::{Reason, Refusal};
@@ -19,14 +20,10 @@ use outcomes::opening_record::OpeningRecord;
 use rules::rule::Rule;
 use sheets::sheet::Sheet;
 
-// The lowest tag of a vote, and how many there may be.
-const FIRST_TAG: u8 = 0x20;
-
-const TAGS: u8 = 16;
-
 impl<S: Sheet, R: Rule, C: Coin> SayingView<'_, S, R, C> {
     // The first vote under a tag, where the rule uses it.
     fn first_if_used(&self, from: u32, tag: u8) -> Option<Message<S>>
+        requires { 32 ≤ tag }
         ensures { option_map (on_sheet S.Sheet.bytes) result ≡ first_if_used (setting S.Sheet.rows S.Sheet.LEN S.Sheet.KIND S.Sheet.lawful R.Rule.acts C.Coin.acts) self.now.member.n self.now.member.own (holding R.Rule.meaning Running self.now.records.now self.now.rounds.now self.now.places.now self.now.coin.now) from tag }
     {
         if !R::tags().includes(tag) {
@@ -35,11 +32,11 @@ impl<S: Sheet, R: Rule, C: Coin> SayingView<'_, S, R, C> {
         self.first_under(from, tag)
     }
 
-    // The first vote of all.
+    // The first vote of all, from the tag on that does not lie wholly below the position.
     fn first_vote(&self, from: u32) -> Option<Message<S>>
         ensures { option_map (on_sheet S.Sheet.bytes) result ≡ first_vote (setting S.Sheet.rows S.Sheet.LEN S.Sheet.KIND S.Sheet.lawful R.Rule.acts C.Coin.acts) self.now.member.n self.now.member.own (holding R.Rule.meaning Running self.now.records.now self.now.rounds.now self.now.places.now self.now.coin.now) from }
     {
-        for offset in 0..TAGS {
+        for offset in tags_below(from)..TAGS {
             if let Some(vote) = self.first_if_used(from, FIRST_TAG + offset) {
                 return Some(vote);
             }

@@ -6,15 +6,14 @@ ghost use Rattle.outcomes.specs.Holdings.{Running, state_of};
 ghost use Rattle.outcomes.specs.Tables.{holding};
 ghost use Rattle.outcomes.specs.Saying.{vote_message, may_be_cast, is_vote_said, vote_from, first_value, first_in_ballot, first_under};
 
+use crate::below::{ROUNDS, rounds_below};
 use crate::view::SayingView;
+use broadcast::say::slots_below;
 use coins::coin::Coin;
 use messages::message::{BitSet, Message, Vote};
 use rules::cast_vote::CastVote;
 use rules::rule::Rule;
 use sheets::sheet::Sheet;
-
-// How many rounds a ballot has.
-const ROUNDS: u8 = 16;
 
 // A vote's message: under 0x20 and 0x21 for one bit, else for a set.
 fn vote_message<S>(tag: u8, slot: u8, round: u8, bits: BitSet) -> Message<S>
@@ -84,12 +83,13 @@ impl<S: Sheet, R: Rule, C: Coin> SayingView<'_, S, R, C> {
             .or_else(both)
     }
 
-    // The first vote of a ballot.
+    // The first vote of a ballot, from the round on that does not lie wholly below the position.
     fn first_in_ballot(&self, from: u32, tag: u8, slot: u8) -> Option<Message<S>>
-        requires { slot < self.now.member.n }
+        requires slot { slot < self.now.member.n }
+        requires tag { 32 ≤ tag }
         ensures { option_map (on_sheet S.Sheet.bytes) result ≡ first_in_ballot self.now.member.own (holding R.Rule.meaning Running self.now.records.now self.now.rounds.now self.now.places.now self.now.coin.now) from tag slot }
     {
-        for round in 0..ROUNDS {
+        for round in rounds_below(from, tag, slot)..ROUNDS {
             if let Some(vote) = self.first_value(from, tag, slot, round) {
                 return Some(vote);
             }
@@ -97,11 +97,12 @@ impl<S: Sheet, R: Rule, C: Coin> SayingView<'_, S, R, C> {
         None
     }
 
-    // The first vote under a tag.
+    // The first vote under a tag, from the slot on that does not lie wholly below the position.
     pub fn first_under(&self, from: u32, tag: u8) -> Option<Message<S>>
+        requires { 32 ≤ tag }
         ensures { option_map (on_sheet S.Sheet.bytes) result ≡ first_under self.now.member.own (holding R.Rule.meaning Running self.now.records.now self.now.rounds.now self.now.places.now self.now.coin.now) from self.now.member.n tag }
     {
-        for slot in 0..self.member.n {
+        for slot in slots_below(from, self.member, tag)..self.member.n {
             if let Some(vote) = self.first_in_ballot(from, tag, slot) {
                 return Some(vote);
             }

@@ -80,6 +80,11 @@ module _ {R : Type 0} (rows : Rows R) (n own k : ℕ) where
       second_by fuel rs ps' r l lk lo fit' e' q h
       ∙ taken (both rs ps) (both rs ps') (suc (suc fuel)) (next_is (both rs ps) (Some x) (ready_due rows n own k (both rs ps)) (delivery_due rows n own k (both rs ps)) e refl refl)
 
+  -- what stands already is tested once or twice
+  unless_twice : {X Y : Type 0} (said : Option X) (y : Option Y) → unless said (unless said y) ≡ unless said y
+  unless_twice None y = refl
+  unless_twice (Some x) y = refl
+
   -- a sheet of the kind is held by its row
   held_of : {S : Type 0} (bytes : S → List ℕ) → ((x : S) → rows.held (rows.row (bytes x)) ≡ Some (bytes x)) → {Y : Type 0} (said : Option Y) (o : Option S) → Held (unless said (option_map bytes o))
   held_of bytes law (Some y) o = tt
@@ -95,7 +100,7 @@ module _ {R : Type 0} (rows : Rows R) (n own k : ℕ) where
   pub settles : {S : Type 0} (bytes : S → List ℕ) → ((x : S) → rows.held (rows.row (bytes x)) ≡ Some (bytes x)) → k < n → own < n
       → (t t' : Slot) (ps p1 p2 : List R) (e r : Option S) → all_places n ≤ length ps
       → option_map bytes e ≡ recorded rows n ps Send k own → p1 ≡ said_due rows n own k Echo ps (unless (recorded rows n ps Echo k own) (option_map bytes e))
-      → option_map bytes r ≡ to_ready rows n p1 k → p2 ≡ said_due rows n own k Ready p1 (unless (recorded rows n p1 Ready k own) (option_map bytes r))
+      → option_map bytes r ≡ unless (recorded rows n p1 Ready k own) (to_ready rows n p1 k) → p2 ≡ said_due rows n own k Ready p1 (unless (recorded rows n p1 Ready k own) (option_map bytes r))
       → t' ≡ marked_slot t (unless t.delivered (leader rows n p2 Ready k (quorum n) n))
       → SettledIn rows n own k t t' ps p2
   settles bytes law lk lo t t' ps p1 p2 e r fit qe q1 qr q2 q3 rs l at =
@@ -108,4 +113,4 @@ module _ {R : Type 0} (rows : Rows R) (n own k : ℕ) where
       ∙ ap (λ (s : Slot). marked k rs (unless s.delivered (leader rows n p2 Ready k (quorum n) n))) (sym at) in
       ap (λ x. both x p2) put ∙ ap (done rs) said
       ∙ all_steps 0 rs ps due due' l lk lo fit (ap (unless (recorded rows n ps Echo k own)) qe) (held_of bytes law (recorded rows n ps Echo k own) e)
-      (ap (unless (recorded rows n p1' Ready k own)) (qr ∙ ap (λ p. to_ready rows n p k) q1)) (held_of bytes law (recorded rows n p1' Ready k own) r)
+      (ap (unless (recorded rows n p1' Ready k own)) (qr ∙ ap (λ p. unless (recorded rows n p Ready k own) (to_ready rows n p k)) q1) ∙ unless_twice (recorded rows n p1' Ready k own) (to_ready rows n p1' k)) (held_of bytes law (recorded rows n p1' Ready k own) r)

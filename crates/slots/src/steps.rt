@@ -39,6 +39,19 @@ fn sheet_to_ready<S: Sheet>(sheets: &SlotSheets<'_, S>) -> Option<S>
         .or_else(readied)
 }
 
+// The sheet that is to be readied, where no ready is said: where one is, nothing is counted.
+fn ready_to_say<S: Sheet>(places: &[S::Row], n: u8, own: u8, slot: u8) -> Option<S>
+    requires low { slot < n }
+    requires below { own < n }
+    requires enough { all_places n ≤ length places.now }
+    ensures { option_map S.Sheet.bytes result ≡ unless (recorded S.Sheet.rows n places.now Ready slot own) (to_ready S.Sheet.rows n places.now slot) }
+{
+    if sheet_from::<S>(places, n, Phase::Ready, slot, own).is_some() {
+        return None;
+    }
+    sheet_to_ready(&SlotSheets { n, slot, places })
+}
+
 // Marks the slot as delivered, if 2f + 1 are ready of one sheet and it is not delivered yet.
 fn deliver<S: Sheet>(row: &mut Slot, sheets: &SlotSheets<'_, S>)
     ensures { row.new ≡ marked_slot row.old (unless row.old.delivered (leader S.Sheet.rows sheets.now.n sheets.now.places.now Ready sheets.now.slot (quorum sheets.now.n) sheets.now.n)) }
@@ -63,12 +76,7 @@ pub fn settle_slot<S: Sheet>(row: &mut Slot, places: &mut [S::Row], n: u8, own: 
 {
     let send = sheet_from::<S>(places, n, Phase::Send, slot, own);
     say_due(places, n, own, Phase::Echo, slot, send);
-    let sheets = SlotSheets::<S> {
-        n,
-        slot,
-        places: &*places,
-    };
-    let ready = sheet_to_ready(&sheets);
+    let ready = ready_to_say::<S>(places, n, own, slot);
     say_due(places, n, own, Phase::Ready, slot, ready);
     let sheets = SlotSheets::<S> {
         n,

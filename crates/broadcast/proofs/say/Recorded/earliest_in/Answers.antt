@@ -1,12 +1,14 @@
 -- One slot more.
-use Rattle.std.proofs.Common.{refl}
-use Rattle.broadcast.specs.Saying.{earliest}
-use Rattle.broadcast.proofs.Saying.{none_more, this_one}
+use Rattle.std.proofs.Common.{◌≡◌, ◌+◌, ◌*◌, ◌≤◌, sym, subst}
+use Rattle.broadcast.proofs.Saying.{none_all, none_below, none_more, this_one}
 use Rattle.broadcast.proofs.say.Recorded.earliest_in.Goals as goal
 
 pub loop-slot-init : goal.loop-slot-init
-unfolding earliest
-loop-slot-init g c = refl
+loop-slot-init g c =
+    let m = g.S.Sheet in
+    let s = c.args.self.now in
+    none_all m.rows s.member.n s.member.own s.places.now c.args.phase c.args.from c.slots_below-slot.result
+    (λ k l. none_below m.rows s.member.n s.member.own s.places.now c.args.phase c.args.from k (subst (λ t. (t * 16 + k) * 4096 + 4096 ≤ c.args.from) c.tag.ensures (c.slots_below-slot.ensures.below k l)))
 
 pub returns-in-Some : goal.returns-in-Some
 returns-in-Some g c =

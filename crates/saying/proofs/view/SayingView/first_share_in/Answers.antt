@@ -1,12 +1,10 @@
 -- One round more.
-use Rattle.std.proofs.Common.{refl}
 use Rattle.outcomes.specs.Saying.{first_of, share_from}
 use Rattle.saying.proofs.Firsts.{none_more, this_one}
 use Rattle.saying.proofs.view.SayingView.first_share_in.Goals as goal
 
 pub loop-later-init : goal.loop-later-init
-unfolding first_of
-loop-later-init g c = refl
+loop-later-init g c = c.pass_rounds.ensures
 
 pub returns-in-Some : goal.returns-in-Some
 returns-in-Some g c =

@@ -1,12 +1,10 @@
 -- One slot more.
-use Rattle.std.proofs.Common.{refl}
 use Rattle.outcomes.specs.Saying.{first_of, first_share_in}
 use Rattle.saying.proofs.Firsts.{none_more, this_one}
 use Rattle.saying.proofs.view.SayingView.first_share_of_all.Goals as goal
 
 pub loop-slot-init : goal.loop-slot-init
-unfolding first_of
-loop-slot-init g c = refl
+loop-slot-init g c = c.pass_ballots.ensures
 
 pub returns-in-Some : goal.returns-in-Some
 returns-in-Some g c =
