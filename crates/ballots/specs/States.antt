@@ -1,5 +1,5 @@
 -- What the record of a ballot means. Assumes nothing.
-use Rattle.std.specs.Prelude.{ℕ, zero, suc, ◌+◌, ◌*◌, List, slice_index_or}
+use Rattle.std.specs.Prelude.{ℕ, zero, suc, ◌+◌, ◌*◌, ◌<◌, List, slice_index_or}
 use Rattle.rules.specs.Rounds.{Round, cleared, bit_if_any}
 use Rattle.phases.specs.Records.{meaning_of}
 use Rattle.ballots.specs.declared.ballot.Ballot.{Ballot}
@@ -16,6 +16,11 @@ pub record Opened : Type 0 where
 abbrev pub stage_of : Stage → ℕ
 stage_of (InRound r) = r
 stage_of Finished = 16
+
+-- a stage in the one form in which it is written: a round below 16, or finished
+abbrev pub Plain : Stage → Type 0
+Plain (InRound r) = r < 16
+Plain Finished = Unit {0}
 
 abbrev pub ballot_meaning : Ballot → Opened
 ballot_meaning b = record { opening = meaning_of b.opening; stage = stage_of b.stage; decided = bit_if_any b.decided }

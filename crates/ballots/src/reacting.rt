@@ -3,7 +3,7 @@ ghost use Rattle.std.specs.Prelude.{◌≡◌, ℕ, suc, ◌==◌};
 ghost use Rattle.basis.specs.Steps.{taking};
 ghost use Rattle.messages.specs.Tags.{bits_number};
 ghost use Rattle.rules.specs.Rounds.{bit_set, bit_if_any};
-ghost use Rattle.ballots.specs.States.{stage_of, ballot_meaning, unopened};
+ghost use Rattle.ballots.specs.States.{stage_of, Plain, ballot_meaning, unopened};
 ghost use Rattle.ballots.specs.Ballots.{next_bit, decision, with_opening, reacted, enters_with};
 ghost use Rattle.ballots.specs.Listed.{repropose};
 
@@ -58,10 +58,12 @@ impl Ballot {
         }
     }
 
-    // Reacts to an event. The answer is the bit with which the next round is entered, if one is.
+    // Reacts to an event. The answer is the bit with which the next round is entered, if one is. A finished ballot is written
+    // as such, not as in a round 16.
     pub fn react(&mut self, member: Member, event: Event) -> Option<bool>
         ensures left { ballot_meaning self.new ≡ reacted member.n member.own event (ballot_meaning self.old) }
         ensures answer { bit_if_any result ≡ enters_with event (stage_of self.old.stage) }
+        ensures plain { Plain self.old.stage → Plain self.new.stage }
     {
         match (self.stage, event) {
             (_, Event::Proposal(bit)) => {

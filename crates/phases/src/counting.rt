@@ -34,8 +34,10 @@ pub fn holds_honest(members: ReplicaSet, n: u8) -> bool
 }
 
 impl PhasedRound {
-    // Whether a bit is admitted: 2f + 1 first votes for it are recorded.
+    // Whether a bit is admitted: 2f + 1 first votes for it are recorded. Kept apart, as the other counts: where nothing is
+    // to be counted, the steps of a round are a few tests that way.
     #[tactic(auto, unfolding(crate::specs::Steps::admitted))]
+    #[inline(never)]
     pub fn admits(&self, n: u8, bit: bool) -> bool
         ensures { result ≡ admitted n (meaning_of self.now) (bit_set bit) }
     {
@@ -83,6 +85,7 @@ impl Counted {
 impl PhasedRound {
     // Whether 2f + 1 votes of a phase lie within the set of admitted bits.
     #[tactic(auto, using(basis::proofs::Counts::count_cong), unfolding(crate::specs::Steps::enough))]
+    #[inline(never)]
     pub fn has_enough(&self, n: u8, phase: VotePhase) -> bool
         ensures { result ≡ enough n (meaning_of self.now) (tag_of phase) }
     {
@@ -90,6 +93,7 @@ impl PhasedRound {
     }
 
     // The union of those votes.
+    #[inline(never)]
     pub fn union_in(&self, n: u8, phase: VotePhase) -> Option<BitSet>
         ensures { set_if_any result ≡ union n (meaning_of self.now) (tag_of phase) }
     {

@@ -1,5 +1,5 @@
 -- One slot more.
-use Rattle.std.proofs.Common.{◌≡◌, ◌+◌, ◌*◌, ◌≤◌, sym, subst}
+use Rattle.std.proofs.Common.{◌+◌, ◌*◌, ◌≤◌, subst}
 use Rattle.broadcast.proofs.Saying.{none_all, none_below, none_more, this_one}
 use Rattle.broadcast.proofs.say.Recorded.earliest_in.Goals as goal
 

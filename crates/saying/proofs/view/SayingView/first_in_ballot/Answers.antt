@@ -1,7 +1,7 @@
 -- One round more.
 use Rattle.outcomes.specs.Holdings.{Running}
 use Rattle.outcomes.specs.Tables.{holding}
-use Rattle.outcomes.specs.Saying.{first_of, first_value}
+use Rattle.outcomes.specs.Saying.{first_value}
 use Rattle.saying.proofs.Firsts.{none_all, none_more, this_one}
 use Rattle.saying.proofs.PassedOver.{no_value}
 use Rattle.saying.proofs.view.SayingView.first_in_ballot.Goals as goal

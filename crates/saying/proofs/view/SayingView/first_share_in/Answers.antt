@@ -1,5 +1,5 @@
 -- One round more.
-use Rattle.outcomes.specs.Saying.{first_of, share_from}
+use Rattle.outcomes.specs.Saying.{share_from}
 use Rattle.saying.proofs.Firsts.{none_more, this_one}
 use Rattle.saying.proofs.view.SayingView.first_share_in.Goals as goal
 

@@ -1,5 +1,5 @@
 -- One slot more.
-use Rattle.outcomes.specs.Saying.{first_of, first_share_in}
+use Rattle.outcomes.specs.Saying.{first_share_in}
 use Rattle.saying.proofs.Firsts.{none_more, this_one}
 use Rattle.saying.proofs.view.SayingView.first_share_of_all.Goals as goal
 

@@ -1,7 +1,7 @@
 -- One slot more.
 use Rattle.outcomes.specs.Holdings.{Running}
 use Rattle.outcomes.specs.Tables.{holding}
-use Rattle.outcomes.specs.Saying.{first_of, first_in_ballot}
+use Rattle.outcomes.specs.Saying.{first_in_ballot}
 use Rattle.saying.proofs.Firsts.{none_all, none_more, this_one}
 use Rattle.saying.proofs.PassedOver.{no_ballot}
 use Rattle.saying.proofs.view.SayingView.first_under.Goals as goal

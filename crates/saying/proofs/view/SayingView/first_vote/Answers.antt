@@ -3,7 +3,7 @@ use Rattle.std.proofs.Common.{◌+◌, arith}
 use Rattle.basis.proofs.Thirds.{at_most_16}
 use Rattle.outcomes.specs.Holdings.{Running}
 use Rattle.outcomes.specs.Tables.{setting, holding}
-use Rattle.outcomes.specs.Saying.{first_of, first_if_used}
+use Rattle.outcomes.specs.Saying.{first_if_used}
 use Rattle.saying.proofs.Firsts.{none_all, none_more, this_one}
 use Rattle.saying.proofs.PassedOver.{no_used}
 use Rattle.saying.proofs.view.SayingView.first_vote.Goals as goal

@@ -1,5 +1,5 @@
 -- A share of a byte stands below the next round.
-use Rattle.std.proofs.Common.{suc, sym, ◌∙◌, ap₂}
+use Rattle.std.proofs.Common.{sym, ◌∙◌, ap₂}
 use Rattle.saying.proofs.PassedOver.{no_share}
 use Rattle.saying.proofs.view.SayingView.pass_share.Goals as goal
 
