@@ -2,23 +2,13 @@
 #![tactic(auto)]
 
 use anyhow::anyhow;
-use halls::player::{Player, Stop};
+use halls::script::play_all;
 use std::io::Read;
-use text::words::Lines;
 
 fn main(rt: HostRuntime) -> anyhow::Result<()> {
     let mut input = Vec::new(rt.alloc());
     let _ = rt.stdin().read_to_end(&mut input)?;
-    let mut player = Player::new(rt.alloc());
-    for (number, line) in (1u64..).zip(Lines::of(input.as_slice())) {
-        match player.play(line) {
-            Ok(printed) => print!(rt; "{printed}")?,
-            Err(Stop::Fault) => {
-                println!(rt; "script {number}")?;
-                break;
-            }
-            Err(Stop::Memory) => return Err(anyhow!("out of memory")),
-        }
-    }
+    let printed = play_all(rt.alloc(), input.as_slice()).or(Err(anyhow!("out of memory")))?;
+    print!(rt; "{printed}")?;
     Ok(())
 }

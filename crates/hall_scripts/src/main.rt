@@ -2,37 +2,33 @@
 #![tactic(auto)]
 
 use anyhow::anyhow;
-use halls::player::{Player, Stop};
+use halls::script::play_all;
 use std::io::Read;
 use text::words::Lines;
 
 // The line between two scripts, which is none of a script.
 const PART: &[u8] = b"====";
 
+// Plays a script, and prints all that it prints.
+fn play(rt: &HostRuntime, script: &[u8]) -> anyhow::Result<()> {
+    let printed = play_all(rt.alloc(), script).or(Err(anyhow!("out of memory")))?;
+    print!(rt; "{printed}")?;
+    Ok(())
+}
+
 fn main(rt: HostRuntime) -> anyhow::Result<()> {
     let mut input = Vec::new(rt.alloc());
     let _ = rt.stdin().read_to_end(&mut input)?;
-    let mut player = Some(Player::new(rt.alloc()));
-    let mut number = 0u64;
+    let mut script = Vec::new(rt.alloc());
     for line in Lines::of(input.as_slice()) {
         if line == PART {
+            play(&rt, script.as_slice())?;
             println!(rt; "====")?;
-            player = Some(Player::new(rt.alloc()));
-            number = 0;
+            script.clear();
             continue;
         }
-        number = number.saturating_add(1);
-        let Some(playing) = &mut player else {
-            continue;
-        };
-        match playing.play(line) {
-            Ok(printed) => print!(rt; "{printed}")?,
-            Err(Stop::Fault) => {
-                println!(rt; "script {number}")?;
-                player = None;
-            }
-            Err(Stop::Memory) => return Err(anyhow!("out of memory")),
-        }
+        script.extend_from_slice(line)?;
+        script.push(b'\n')?;
     }
-    Ok(())
+    play(&rt, script.as_slice())
 }

@@ -11,6 +11,7 @@ pub mod Asking
 pub mod Resting
 pub mod Closed
 pub mod Scripting
+pub mod Whole
 pub mod Agreeing
 pub mod Newly
 pub mod Beginning

@@ -1,5 +1,7 @@
 -- What the lines of a script come to: what each prints, what hall it leaves, and a whole script at play. Assumes nothing.
-use Rattle.std.specs.Prelude.{◌≡◌, ℕ, cond, List, [], ◌∷◌, ◌⊎◌, Some, None, Ok, Err, Option, Result, String, string_bytes, nat_lt}
+use Rattle.std.specs.Prelude.{◌≡◌, ℕ, ◌+◌, Bool, cond, List, [], ◌∷◌, ◌++◌, ◌⊎◌, codes, is_some, Some, None, Ok, Err, Option, Result, String, string_bytes, nat_lt}
+use Rattle.std.specs.Fmt.{decimal}
+use Rattle.text.specs.Lines.{lines}
 use Rattle.outcomes.specs.Closing.{closing_view}
 use Rattle.scripts.specs.Commands.{command_of}
 use Rattle.scripts.specs.declared.command.Command.{Command}
@@ -135,3 +137,27 @@ Among p (q ∷ ps) = (p ≡ q) ⊎ Among p ps
 -- whatever the lines of a script, all its closes print the same list
 abbrev pub ScriptsAlike : Type 0
 ScriptsAlike = (h : Option AHall) (ps : List Printed) → Script h ps → (i j : ℕ) (x y : List ℕ) → Among (closes i x) ps → Among (closes j y) ps → x ≡ y
+
+-- the line that tells of a fault, by the number of the script's line
+abbrev pub fault_line : ℕ → List ℕ
+fault_line k = codes "script " ++ (decimal k ++ 10 ∷ [])
+
+-- what stands in the output for line k
+abbrev pub shown_of : ℕ → Option Printed → List ℕ
+shown_of k None = fault_line k
+shown_of k (Some p) = text_of p
+
+-- what is printed of the lines from the k-th on, with the hall that stands before them: up to the first fault
+unfoldable pub printed_from : ℕ → Option Scene → List (List ℕ) → List ℕ
+printed_from k s [] = []
+printed_from k s (line ∷ more) = shown_of k (line_prints s line) ++ cond (is_some (line_prints s line)) (printed_from (k + 1) (line_leaves s line) more) []
+
+-- all that a script prints
+abbrev pub script_printed : List ℕ → List ℕ
+script_printed text = printed_from 1 None (lines text)
+
+-- what playing line k has added to the output, whether the script goes on, and the hall that is left
+pub record Added (k : ℕ) (line : List ℕ) (s s' : Option Scene) (out out' : List ℕ) (on : Bool) : Type 0 where
+  pub text : out' ≡ out ++ shown_of k (line_prints s line)
+  pub goes_on : on ≡ is_some (line_prints s line)
+  pub hall : s' ≡ line_leaves s line

@@ -10,5 +10,6 @@ pub mod player;
 pub mod report;
 pub mod rest;
 pub mod ruled;
+pub mod script;
 pub mod state;
 pub mod till;
