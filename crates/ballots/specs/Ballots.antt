@@ -108,9 +108,12 @@ module _ {C : Type 0} (a : Acts) (b : Coin-acts C) (n own k : ℕ) where
   abbrev pub gone_on : ℕ → BallotState C → BallotState C
   gone_on r s = record { ballot = gone_ballot r (verdict_at r s) (face r s) s.ballot; rounds = gone_rounds a n own k r (verdict_at r s) (face r s) s.ballot s.rounds; coin = s.coin }
 
-  -- a later round: the rule's steps, the share, going on
+  -- a later round: the rule's steps and the share, and then going on
+  abbrev pub round_stepped : ℕ → BallotState C → BallotState C
+  round_stepped r s = shared r (ruled r s)
+
   abbrev pub round_settled : ℕ → BallotState C → BallotState C
-  round_settled r s = gone_on (suc r) (shared r (ruled r s))
+  round_settled r s = gone_on (suc r) (round_stepped r s)
 
   -- so many later rounds from suc r on, the lowest first
   unfoldable pub later_settled : ℕ → ℕ → BallotState C → BallotState C

@@ -1,8 +1,8 @@
 // Going on from a round, and settling all rounds of a ballot.
-ghost use Rattle.std.specs.Prelude.{◌≡◌, ℕ, suc, ◌+◌, ◌*◌, ◌<◌, ◌≤◌, map, length};
+ghost use Rattle.std.specs.Prelude.{◌≡◌, ℕ, suc, ◌+◌, ◌-◌, ◌*◌, ◌<◌, ◌≤◌, map, length};
 ghost use Rattle.rules.specs.Rounds.{cleared, bit_if_any, set_if_any};
 ghost use Rattle.ballots.specs.States.{place, ballot_meaning};
-ghost use Rattle.ballots.specs.Ballots.{gone_ballot, gone_rounds, opened_ballot, opened_rounds, round_settled};
+ghost use Rattle.ballots.specs.Ballots.{gone_ballot, gone_rounds, opened_ballot, opened_rounds, verdict_at, round_stepped, round_settled, later_settled};
 ghost use Rattle.ballots.specs.Listed.{ballot_taken, ListedOrder};
 
 use crate::ballot::{Ballot, Event};
@@ -39,7 +39,29 @@ pub fn go_on<R: Rule>(
     }
 }
 
-// A later round: the rule takes its steps, the share is said, and the ballot goes on.
+// The rule takes its steps in a later round that is entered, and the share is said. The answer is the round's verdict.
+// Inlined, since most of a call's rounds are gone on from and cost little more than the call itself.
+#[inline(always)]
+pub fn step_round<R: Rule, C: Coin>(
+    ballot: &Ballot,
+    rounds: &mut [R::Record],
+    coin: &mut C,
+    member: Member,
+    at: LaterRound,
+) -> Option<BitSet>
+    requires { 15 * at.slot + 15 ≤ length rounds.old }
+    ensures state { record { ballot = ballot_meaning ballot.now; rounds = map R.Rule.meaning rounds.new; coin = coin.new } ≡ round_stepped R.Rule.acts C.Coin.acts member.n member.own at.slot at.later (record { ballot = ballot_meaning ballot.now; rounds = map R.Rule.meaning rounds.old; coin = coin.old }) }
+    ensures verdict { set_if_any result ≡ verdict_at R.Rule.acts C.Coin.acts member.n member.own at.slot (suc at.later) (record { ballot = ballot_meaning ballot.now; rounds = map R.Rule.meaning rounds.new; coin = coin.new }) }
+{
+    let stage = ballot.stage;
+    let row = &mut rounds[row_of(at.slot, at.later)];
+    take_rule_steps::<R>(row, stage, member, at.later);
+    let verdict = R::verdict(row);
+    say_share(coin, stage, verdict, member, at);
+    verdict
+}
+
+// A later round: the rule takes its steps, the share is said, and the ballot goes on, where it is in that round.
 pub fn settle_round<R: Rule, C: Coin>(
     ballot: &mut Ballot,
     rounds: &mut [R::Record],
@@ -50,15 +72,30 @@ pub fn settle_round<R: Rule, C: Coin>(
     requires { 15 * at.slot + 15 ≤ length rounds.old }
     ensures { record { ballot = ballot_meaning ballot.exit.now; rounds = map R.Rule.meaning rounds.new; coin = coin.new } ≡ round_settled R.Rule.acts C.Coin.acts member.n member.own at.slot at.later (record { ballot = ballot_meaning ballot.entry.now; rounds = map R.Rule.meaning rounds.old; coin = coin.old }) }
 {
-    if !ballot.stage.has_entered(at.later) {
-        return;
+    let verdict = step_round::<R, C>(ballot, rounds, coin, member, at);
+    if ballot.stage.is_round(at.round()) {
+        let shown = coin.bit(at.tossed_round());
+        go_on::<R>(ballot, rounds, member, at.slot, at.round(), verdict, shown);
     }
-    let row = &mut rounds[row_of(at.slot, at.later)];
-    take_rule_steps::<R>(row, ballot.stage, member, at.later);
-    let verdict = R::verdict(row);
-    say_share(coin, ballot.stage, verdict, member, at);
-    let shown = coin.bit(at.tossed_round());
-    go_on::<R>(ballot, rounds, member, at.slot, at.round(), verdict, shown);
+}
+
+// The later rounds that the ballot has gone on from, the lowest first. The answer is how many they are.
+pub fn settle_passed<R: Rule, C: Coin>(
+    ballot: &Ballot,
+    rounds: &mut [R::Record],
+    coin: &mut C,
+    member: Member,
+    slot: u8,
+) -> u8
+    requires { (slot < 16) × (15 * slot + 15 ≤ length rounds.old) }
+    ensures low { result ≤ 15 }
+    ensures left { later_settled R.Rule.acts C.Coin.acts member.n member.own slot (15 - result) result (record { ballot = ballot_meaning ballot.now; rounds = map R.Rule.meaning rounds.new; coin = coin.new }) ≡ later_settled R.Rule.acts C.Coin.acts member.n member.own slot 15 0 (record { ballot = ballot_meaning ballot.now; rounds = map R.Rule.meaning rounds.old; coin = coin.old }) }
+{
+    let passed = ballot.stage.passed();
+    for later in 0..passed {
+        step_round::<R, C>(ballot, rounds, coin, member, LaterRound { slot, later });
+    }
+    passed
 }
 
 // The opening round takes its steps and is gone on from, as if a coin showed 1.
@@ -93,7 +130,11 @@ pub fn settle_ballot<R: Rule, C: Coin>(
 {
     ballot.repropose(member, delivered);
     settle_opening::<R>(ballot, rounds, member, slot);
-    for later in 0..LATER {
+    let passed = settle_passed::<R, C>(ballot, rounds, coin, member, slot);
+    for later in passed..LATER {
+        if !ballot.stage.has_entered(later) {
+            return;
+        }
         settle_round::<R, C>(ballot, rounds, coin, member, LaterRound { slot, later });
     }
 }

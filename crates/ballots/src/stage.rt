@@ -1,8 +1,9 @@
 // The stage of a ballot as a number.
-ghost use Rattle.std.specs.Prelude.{◌≡◌, ℕ, nat_lt, ◌==◌};
+ghost use Rattle.std.specs.Prelude.{◌≡◌, ℕ, suc, ◌<◌, ◌≤◌, nat_lt, ◌==◌};
 ghost use Rattle.ballots.specs.States.{stage_of};
 
 use crate::ballot::Stage;
+use crate::rounds::LATER;
 
 // The round, and 16 where the ballot has gone on from all.
 impl From<Stage> for u8 {
@@ -29,5 +30,18 @@ impl Stage {
         ensures { result ≡ nat_lt later (stage_of self) }
     {
         later < u8::from(self)
+    }
+
+    // How many later rounds the ballot has gone on from.
+    pub fn passed(self) -> u8
+        ensures low { result ≤ 15 }
+        ensures below { (r : ℕ) → r < result → suc r < stage_of self }
+    {
+        let stage = u8::from(self);
+        if stage > LATER {
+            LATER
+        } else {
+            stage.saturating_sub(1)
+        }
     }
 }

@@ -2,9 +2,9 @@
 use crate::counts::{more, more_at};
 use crate::dealing::{Deal, Draft};
 use crate::evening::{Evening, Fault, ROOM};
+use crate::judging::{are_apart, are_same, are_too_few, is_missing};
 use crate::seat::Seat;
 use ballots::ballot::{Ballot, Stage};
-use basis::hall::fault_limit;
 use coins::tossed_round::TossedRound;
 use halls::packet::message_in;
 use messages::message::{BitSet, Message, Phase};
@@ -85,7 +85,7 @@ impl<S: Draft, C: Deal, const THIRD: bool> Evening<S, C, THIRD> {
         let Some(record) = seat.records.get(usize::from(slot)) else {
             return Ok(None);
         };
-        if slot < self.honest && record.slot.delivered.is_none() {
+        if is_missing(self.honest, slot, record.slot.delivered) {
             return Err(NOT_DELIVERED);
         }
         let Ballot { stage, decided, .. } = record.ballot;
@@ -106,7 +106,7 @@ impl<S: Draft, C: Deal, const THIRD: bool> Evening<S, C, THIRD> {
             let mut common = None;
             for number in 0..self.honest {
                 let decided = self.check_ballot(number, slot)?;
-                if common.is_some() && decided.is_some() && common != decided {
+                if are_apart(common, decided) {
                     return Err(DISAGREE);
                 }
                 common = common.or(decided);
@@ -163,7 +163,9 @@ impl<S: Draft, C: Deal, const THIRD: bool> Evening<S, C, THIRD> {
             self.record_len = Some(len);
             self.record = out;
         }
-        if self.record_len != Some(len) || self.record != out {
+        let first = self.record_len.unwrap_or(0);
+        let first = self.record.get(..first).unwrap_or(&[]);
+        if !are_same(first, out.get(..len).unwrap_or(&[])) {
             return Err(RECORDS_DIFFER);
         }
         self.check_fields(number, out.get(7..len).unwrap_or(&[]))
@@ -197,7 +199,7 @@ impl<S: Draft, C: Deal, const THIRD: bool> Evening<S, C, THIRD> {
         if !rest.is_empty() {
             return Err(LIST_DIFFERS);
         }
-        if many < fault_limit(self.n).saturating_add(2) {
+        if are_too_few(self.n, many) {
             return Err(TOO_FEW_SHEETS);
         }
         Ok(())

@@ -3,6 +3,7 @@ use crate::checks::RECORD_LONGEST;
 use crate::counts::{Counts, more, more_at};
 use crate::dealing::{Deal, Draft};
 use crate::draws::Draws;
+use crate::judging::is_honest_to_another;
 use crate::seat::Seat;
 use halls::packet::message_in;
 use std::alloc::Global;
@@ -102,7 +103,7 @@ impl<S: Draft, C: Deal, const THIRD: bool> Evening<S, C, THIRD> {
         if let Err(refusal) = answer {
             let number = usize::from(refusal.reason.number());
             more_at(&mut self.counts.refusals, number);
-            if from < self.honest && from != to {
+            if is_honest_to_another(self.honest, from, to) {
                 return Err(HONEST_REFUSED);
             }
         }

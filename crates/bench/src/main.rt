@@ -7,6 +7,7 @@ mod dealing;
 mod draws;
 mod evening;
 mod forging;
+mod judging;
 mod resting;
 mod script;
 mod seat;

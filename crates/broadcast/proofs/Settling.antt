@@ -9,11 +9,11 @@ use Rattle.messages.specs.declared.message.Phase.{Phase}
 use Rattle.messages.specs.declared.message.Phase.TheVariants.{Send, Echo, Ready}
 use Rattle.messages.specs.Reading.{Syntax}
 use Rattle.sheets.specs.Holds.{Rows, holds}
-use Rattle.slots.specs.Places.{or_else, reaches, leader, sheet_of}
+use Rattle.slots.specs.Places.{or_else, reaches, lowest_backed, sheet_of}
 use Rattle.slots.specs.Steps.{Slots, unless, noted, echo_due, ready_cause, ready_due, delivery_due, delivered_by, next, go_on, settled}
 use Rattle.broadcast.specs.Calls.{looked}
 use Rattle.broadcast.specs.Claims.{RowLaws}
-use Rattle.broadcast.proofs.Tables.{holds_some, none_some, leader_some, leader_found, sheet_many, noted_here}
+use Rattle.broadcast.proofs.Tables.{holds_some, none_some, lowest_backed_some, lowest_backed_found, sheet_many, noted_here}
 use Rattle.broadcast.proofs.Moves.{at, many, chosen, Cause, Sound, Grows, grows_on, many_grow, chosen_here, Moves, moves_none, moves_on, note_moves, deliver_moves}
 
 pub unless_some : {X Y : Type 0} (o : Option X) (y : Option Y) (x : Y) → unless o y ≡ Some x → (o ≡ None) × (y ≡ Some x)
@@ -39,9 +39,9 @@ module _ {R : Type 0} (rows : Rows R) (n : ℕ) where
   backed_sheet t ph k least (Some x) h = (x, refl, leb-true _ _ h)
 
   -- a leading sender has a sheet
-  leader_sheet : (t : Slots R) (ph : Phase) (k least : ℕ) → (o : Option ℕ) → leader rows n t.places ph k least n ≡ o → sheet_of rows n t.places ph k o ≡ None → o ≡ None
-  leader_sheet t ph k least None e h = refl
-  leader_sheet t ph k least (Some j) e h = absurd (let b = backed_sheet t ph k least _ (leader_some rows n t.places ph k least n j e).1 in none_some h b.1)
+  lowest_backed_sheet : (t : Slots R) (ph : Phase) (k least : ℕ) → (o : Option ℕ) → lowest_backed rows n t.places ph k least n ≡ o → sheet_of rows n t.places ph k o ≡ None → o ≡ None
+  lowest_backed_sheet t ph k least None e h = refl
+  lowest_backed_sheet t ph k least (Some j) e h = absurd (let b = backed_sheet t ph k least _ (lowest_backed_some rows n t.places ph k least n j e).1 in none_some h b.1)
 
   module _ (own k : ℕ) (t : Slots R) where
     -- the first step that applies, or none
@@ -67,8 +67,8 @@ module _ {R : Type 0} (rows : Rows R) (n : ℕ) where
 
     why_ready : (x : List ℕ) → Cause rows n t k Ready x → ready_cause rows n own k t.places ≡ None → ⊥
     why_ready x c e = let p = or_else_none _ _ e in
-        ⊎_elim (λ a. leader_found rows n t.places Echo k (quorum n) x (omega arith) a (leader_sheet t Echo k (quorum n) _ refl p.0))
-        (λ b. leader_found rows n t.places Ready k (beyond_faults n) x (omega arith) b (leader_sheet t Ready k (beyond_faults n) _ refl p.1)) c
+        ⊎_elim (λ a. lowest_backed_found rows n t.places Echo k (quorum n) x (omega arith) a (lowest_backed_sheet t Echo k (quorum n) _ refl p.0))
+        (λ b. lowest_backed_found rows n t.places Ready k (beyond_faults n) x (omega arith) b (lowest_backed_sheet t Ready k (beyond_faults n) _ refl p.1)) c
 
   -- what holds of slot k where no step of it applies
   pub record Settled (own k : ℕ) (t : Slots R) : Type 0 where
@@ -80,7 +80,7 @@ module _ {R : Type 0} (rows : Rows R) (n : ℕ) where
   rests_settled own k t e r d = record {
     echoed = λ x h. unless_none _ _ e (λ z. none_some z h);
     readied = λ x h. unless_none _ _ r (why_ready own k t x h);
-    got = λ x h. unless_none _ _ d (leader_found rows n t.places Ready k (quorum n) x (omega arith) h);
+    got = λ x h. unless_none _ _ d (lowest_backed_found rows n t.places Ready k (quorum n) x (omega arith) h);
   }
 
   -- what is settled in tables that hold the same
@@ -105,7 +105,7 @@ module _ {R : Type 0} (rows : Rows R) (n : ℕ) where
         note_moves rows n laws own lo t sound k lk Echo own x lo refl l.0 l.1 u.0 ok (λ _. u.1) (inl refl)
     step_moves {ok} k lk t t' sound (readies x e) = let u = unless_some _ _ x e in let c = ready_why own k t x u.1 in let l = cause_lawful t k x c in
         note_moves rows n laws own lo t sound k lk Ready own x lo refl l.0 l.1 u.0 ok (λ _. c) (inl refl)
-    step_moves {ok} k lk t t' sound (delivers j e) = let u = unless_some _ _ j e in let l = leader_some rows n t.places Ready k (quorum n) n j u.1 in let b = backed_sheet t Ready k (quorum n) _ l.1 in
+    step_moves {ok} k lk t t' sound (delivers j e) = let u = unless_some _ _ j e in let l = lowest_backed_some rows n t.places Ready k (quorum n) n j u.1 in let b = backed_sheet t Ready k (quorum n) _ l.1 in
         deliver_moves rows n laws own lo t sound k lk ok j b.0 l.0 u.0 b.1 b.2
     step_moves k lk t t' sound (rests e r d) = moves_none rows n sound
 

@@ -9,7 +9,7 @@ use Rattle.messages.specs.declared.message.Phase.{Phase}
 use Rattle.messages.specs.declared.message.Phase.TheVariants.{Send, Echo, Ready}
 use Rattle.sheets.specs.Holds.{Rows, holds}
 use Rattle.slots.proofs.Positions.{place_within}
-use Rattle.slots.specs.Places.{slot_places, all_places, place, recorded, tally, reaches, backed, leader, sheet_of, or_else}
+use Rattle.slots.specs.Places.{slot_places, all_places, place, recorded, tally, reaches, backed, lowest_backed, sheet_of, or_else}
 use Rattle.slots.specs.Steps.{Slots, noted}
 use Rattle.broadcast.specs.Calls.{may_send}
 use Rattle.broadcast.specs.Claims.{RowLaws}
@@ -86,41 +86,41 @@ module _ {R : Type 0} (rows : Rows R) (n : ℕ) where
     backed_many j s e h = leb-true _ _ (sym (ap (reaches rows n ps ph k least) e) ∙ h)
 
     -- the leading sender is one of those that are asked, and backed
-    pub leader_some : (m j : ℕ) → leader rows n ps ph k least m ≡ Some j → (j < m) × (backed rows n ps ph k least j ≡ true)
-    unfolding leader
-    leader_some zero j e = absurd (none_some refl e)
-    leader_some (suc m) j e = go (leader_some m j) (leader rows n ps ph k least m) refl (backed rows n ps ph k least m) refl e
+    pub lowest_backed_some : (m j : ℕ) → lowest_backed rows n ps ph k least m ≡ Some j → (j < m) × (backed rows n ps ph k least j ≡ true)
+    unfolding lowest_backed
+    lowest_backed_some zero j e = absurd (none_some refl e)
+    lowest_backed_some (suc m) j e = go (lowest_backed_some m j) (lowest_backed rows n ps ph k least m) refl (backed rows n ps ph k least m) refl e
       where
-        go : (leader rows n ps ph k least m ≡ Some j → (j < m) × (backed rows n ps ph k least j ≡ true)) → (o : Option ℕ) → leader rows n ps ph k least m ≡ o → (b : Bool) → backed rows n ps ph k least m ≡ b → or_else o (cond b (Some m) None) ≡ Some j → (j < suc m) × (backed rows n ps ph k least j ≡ true)
+        go : (lowest_backed rows n ps ph k least m ≡ Some j → (j < m) × (backed rows n ps ph k least j ≡ true)) → (o : Option ℕ) → lowest_backed rows n ps ph k least m ≡ o → (b : Bool) → backed rows n ps ph k least m ≡ b → or_else o (cond b (Some m) None) ≡ Some j → (j < suc m) × (backed rows n ps ph k least j ≡ true)
         go ih (Some i) o b t h = let q = ih (o ∙ h) in (omega (arith, q.0), q.1)
         go ih None o true t h = let q : m ≡ j = cc in (omega arith, ap (backed rows n ps ph k least) (sym q) ∙ t)
         go ih None o false t h = absurd (none_some refl h)
 
     -- without a leading sender none is backed
-    pub leader_none : (m : ℕ) → leader rows n ps ph k least m ≡ None → (j : ℕ) → j < m → backed rows n ps ph k least j ≡ true → ⊥
-    unfolding leader
-    leader_none zero e j lt h = omega arith
-    leader_none (suc m) e j lt h = go (λ o lt'. leader_none m o j lt' h) (leader rows n ps ph k least m) refl (backed rows n ps ph k least m) refl e (cases_eq j m)
+    pub lowest_backed_none : (m : ℕ) → lowest_backed rows n ps ph k least m ≡ None → (j : ℕ) → j < m → backed rows n ps ph k least j ≡ true → ⊥
+    unfolding lowest_backed
+    lowest_backed_none zero e j lt h = omega arith
+    lowest_backed_none (suc m) e j lt h = go (λ o lt'. lowest_backed_none m o j lt' h) (lowest_backed rows n ps ph k least m) refl (backed rows n ps ph k least m) refl e (cases_eq j m)
       where
-        go : (leader rows n ps ph k least m ≡ None → j < m → ⊥) → (o : Option ℕ) → leader rows n ps ph k least m ≡ o → (b : Bool) → backed rows n ps ph k least m ≡ b → or_else o (cond b (Some m) None) ≡ None → (j ≡ m) ⊎ (j ≡ m → ⊥) → ⊥
+        go : (lowest_backed rows n ps ph k least m ≡ None → j < m → ⊥) → (o : Option ℕ) → lowest_backed rows n ps ph k least m ≡ o → (b : Bool) → backed rows n ps ph k least m ≡ b → or_else o (cond b (Some m) None) ≡ None → (j ≡ m) ⊎ (j ≡ m → ⊥) → ⊥
         go ih (Some i) o b t h' c = let z : ◌≡◌ {A = ℕ} 0 1 = cc in omega arith
         go ih None o true t h' c = let z : ◌≡◌ {A = ℕ} 0 1 = cc in omega arith
         go ih None o false t h' (inl q) = false≢true (sym t ∙ ap (backed rows n ps ph k least) (sym q) ∙ h)
         go ih None o false t h' (inr q) = ih o (omega arith)
 
     -- a sheet that so many have has a leading sender
-    pub leader_found : (s : List ℕ) → 1 ≤ least → least ≤ tally rows n ps ph k s → leader rows n ps ph k least n ≡ None → ⊥
-    leader_found s one many e =
+    pub lowest_backed_found : (s : List ℕ) → 1 ≤ least → least ≤ tally rows n ps ph k s → lowest_backed rows n ps ph k least n ≡ None → ⊥
+    lowest_backed_found s one many e =
         let c = count_some n (λ j. holds s (recorded rows n ps ph k j)) (omega arith) in
-        leader_none n e c.0 c.1 (ap (reaches rows n ps ph k least) (holds_some s _ c.2) ∙ le-leb _ _ many)
+        lowest_backed_none n e c.0 c.1 (ap (reaches rows n ps ph k least) (holds_some s _ c.2) ∙ le-leb _ _ many)
 
     -- the sheet of a leading sender, and how many have it
-    pub sheet_many : (s : List ℕ) → sheet_of rows n ps ph k (leader rows n ps ph k least n) ≡ Some s → least ≤ tally rows n ps ph k s
-    sheet_many s e = go (leader rows n ps ph k least n) refl e
+    pub sheet_many : (s : List ℕ) → sheet_of rows n ps ph k (lowest_backed rows n ps ph k least n) ≡ Some s → least ≤ tally rows n ps ph k s
+    sheet_many s e = go (lowest_backed rows n ps ph k least n) refl e
       where
-        go : (o : Option ℕ) → leader rows n ps ph k least n ≡ o → sheet_of rows n ps ph k o ≡ Some s → least ≤ tally rows n ps ph k s
+        go : (o : Option ℕ) → lowest_backed rows n ps ph k least n ≡ o → sheet_of rows n ps ph k o ≡ Some s → least ≤ tally rows n ps ph k s
         go None o h = absurd (none_some refl h)
-        go (Some j) o h = backed_many j s h (leader_some n j o).1
+        go (Some j) o h = backed_many j s h (lowest_backed_some n j o).1
 
   module _ (own k : ℕ) (ph : Phase) (j : ℕ) (t : Slots R) (s : List ℕ) where
     -- a lawful sheet that is recorded stands at its place

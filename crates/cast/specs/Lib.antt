@@ -1,3 +1,4 @@
 -- The definitions that the program's contracts cite.
 pub mod Commands
+pub mod Plays
 pub mod States

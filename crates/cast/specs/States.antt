@@ -1,5 +1,5 @@
 -- What the calls of a till come to in each of its states. Assumes nothing.
-use Rattle.std.specs.Prelude.{ℕ, Bool, true, false, not, ◌&&◌, List, Some, None, Ok, Err, Option, Result, slice_get}
+use Rattle.std.specs.Prelude.{ℕ, Bool, true, false, cond, not, ◌&&◌, List, Some, None, Ok, Err, Option, Result, slice_get}
 use Rattle.std.specs.Option.{option_map}
 use Rattle.basis.specs.Members.{Numbers}
 use Rattle.basis.specs.Refusals.{Refused, number_of}
@@ -8,7 +8,7 @@ use Rattle.messages.specs.Tags.{basic_tags}
 use Rattle.sheets.specs.OfTakings.{takings_lawful, takings_rows}
 use Rattle.sheets.specs.declared.kinds.TakingsRow.{TakingsRow}
 use Rattle.slots.specs.Steps.{Slots, delivered_sheet_lem}
-use Rattle.broadcast.specs.Calls.{of_hall, offer_after, hear_answer}
+use Rattle.broadcast.specs.Calls.{of_hall, fits_hall, offer_after, hear_answer, hear_after}
 use Rattle.broadcast.specs.Opening.{fresh_numbers}
 use Rattle.broadcast.specs.Saying.{say_answer, say_output}
 use Rattle.basis.specs.declared.heard.Heard.{Heard}
@@ -80,6 +80,18 @@ heard_of (Fresh f) j xs rounds t = Err misplaced
 heard_of (Running r) j xs rounds t = as_problem (hear_answer takings_rows (syntax 12 takings_lawful (record { n = r.member.n; tags = basic_tags; shares = false })) r.member.own j xs (record { life = calls.Running; slots = t; rounds = rounds }))
 heard_of Gone j xs rounds t = Err misplaced
 
+-- what hearing a packet leaves of the tables
+abbrev pub heard_left : State → ℕ → List ℕ → ℕ → Slots TakingsRow → Slots TakingsRow
+heard_left (Fresh f) j xs rounds t = t
+heard_left (Running r) j xs rounds t = (hear_after takings_rows (syntax 12 takings_lawful (record { n = r.member.n; tags = basic_tags; shares = false })) r.member.own j xs (record { life = calls.Running; slots = t; rounds = rounds })).slots
+heard_left Gone j xs rounds t = t
+
+-- what offering a sheet answers, by the sizes of the tables; only a fresh replica offers
+abbrev pub offered_of : State → ℕ → ℕ → ℕ → Result (Unit {0}) Problem
+offered_of (Fresh f) records rounds places = cond (fits_hall f.member.n records rounds places) (Ok tt) (Err (refused (record { number = 4; place = 0 })))
+offered_of (Running r) records rounds places = Err misplaced
+offered_of Gone records rounds places = Err misplaced
+
 -- what saying from a position answers, and what it leaves of the output
 abbrev pub said_of : State → ℕ → ℕ → Slots TakingsRow → List ℕ → Result (Option ℕ) Problem
 said_of (Fresh f) at rounds t out = Err misplaced
@@ -90,3 +102,18 @@ abbrev pub said_output : State → ℕ → ℕ → Slots TakingsRow → List ℕ
 said_output (Fresh f) at rounds t out = out
 said_output (Running r) at rounds t out = say_output takings_rows r.member.n r.member.own at (record { life = calls.Running; slots = t; rounds = rounds }) out
 said_output Gone at rounds t out = out
+
+-- what stands in a till's tables
+abbrev pub tables_of : Till → Slots TakingsRow
+tables_of t = record { records = t.records.items; places = t.places.items }
+
+-- what a call at a till of the hall answers, where there is that till
+abbrev pub at_till : {X : Type 0} → Option Till → (Till → Result X Problem) → Result X Problem
+at_till None f = Err misplaced
+at_till (Some t) f = f t
+
+abbrev pub till_hears : ℕ → List ℕ → Till → Result Heard Problem
+till_hears j xs t = heard_of t.state j xs t.rounds (tables_of t)
+
+abbrev pub till_says : ℕ → List ℕ → Till → Result (Option ℕ) Problem
+till_says at out t = said_of t.state at t.rounds (tables_of t) out

@@ -1,7 +1,7 @@
 // The hall at play: its tills offer, hear what faulty tills say, and hear each other until nothing is new.
-ghost use Rattle.std.specs.Prelude.{◌≡◌, ◌+◌, ◌*◌, T};
+ghost use Rattle.std.specs.Prelude.{◌≡◌, ◌+◌, ◌*◌, T, IfOk, slice_get};
 ghost use Rattle.basis.specs.Halls.{listed};
-ghost use Rattle.cast.specs.States.{has_offered_at, forging};
+ghost use Rattle.cast.specs.States.{has_offered_at, forging, fault_told, at_till, till_hears, till_says};
 
 use crate::script::{Forgery, Offer};
 use crate::till::{Fault, Till};
@@ -30,7 +30,9 @@ pub struct Rested {
 
 impl Hall {
     // Opens all tills of a hall of n; refused where no hall has that size.
-    pub fn open(heap: Global, n: u8) -> Result<Hall, Fault> {
+    pub fn open(heap: Global, n: u8) -> Result<Hall, Fault>
+        ensures { IfOk result (λ h. h.n ≡ n) }
+    {
         let Member { n, .. } = Member::new(n, 0)?;
         let tills = (0..n)
             .map(|number| Till::open(heap, n, number))
@@ -49,15 +51,12 @@ impl Hall {
         self.tills.as_slice()
     }
 
-    fn till(&mut self, number: u8) -> Result<&mut Till, Fault> {
-        self.tills
-            .get_mut(usize::from(number))
-            .ok_or(Fault::Misplaced)
-    }
-
     // A till of the hall offers.
     pub fn offer(&mut self, offer: Offer) -> Result<(), Fault> {
-        self.till(offer.till)?.offer(offer.amount)
+        match self.tills.get_mut(usize::from(offer.till)) {
+            Some(till) => till.offer(offer.amount),
+            None => Err(Fault::Misplaced),
+        }
     }
 
     // Whether a till may be faulty towards another: the one has not offered, and the other has.
@@ -88,23 +87,39 @@ impl Hall {
     }
 
     // A till says its first message at or after a position, if one is left.
-    fn say(&mut self, from: u8, position: u32, packet: &mut [u8]) -> Result<Option<u32>, Fault> {
-        self.till(from)?.say_from(position, packet)
+    fn say(&self, from: u8, position: u32, packet: &mut [u8]) -> Result<Option<u32>, Fault>
+        ensures { fault_told result ≡ at_till (slice_get self.now.tills.items from) (till_says position packet.old) }
+    {
+        match self.tills.get(usize::from(from)) {
+            Some(till) => till.say_from(position, packet),
+            None => Err(Fault::Misplaced),
+        }
     }
 
     // A till hears a packet from another.
-    fn hear(&mut self, to: u8, from: u8, packet: &[u8]) -> Result<Heard, Fault> {
-        self.till(to)?.hear(from, packet)
+    fn hear(&mut self, to: u8, from: u8, packet: &[u8]) -> Result<Heard, Fault>
+        ensures { fault_told result ≡ at_till (slice_get self.old.tills.items to) (till_hears from packet.now) }
+    {
+        match self.tills.get_mut(usize::from(to)) {
+            Some(till) => till.hear(from, packet),
+            None => Err(Fault::Misplaced),
+        }
+    }
+
+    // How many messages a till says at most: one send, and an echo and a ready for each slot.
+    fn most_said(&self) -> u32
+        ensures { result ≡ 2 * self.now.n + 1 }
+    {
+        2 * u32::from(self.n) + 1
     }
 
     // A loop for its effect, as the two below: each turn changes the tills.
-    // Passes on all messages of a till to another, positions rising; how many were new. A till says one send, and an
-    // echo and a ready for each slot at most.
+    // Passes on all messages of a till to another, positions rising; how many were new.
     fn pass_all(&mut self, from: u8, to: u8) -> u64 {
         let mut packet = [0u8; TAKINGS_MESSAGE];
         let mut messages = 0u64;
         let mut position = 0u32;
-        for _ in 0..2 * u32::from(self.n) + 1 {
+        for _ in 0..self.most_said() {
             let Ok(Some(said)) = self.say(from, position, &mut packet) else {
                 break;
             };

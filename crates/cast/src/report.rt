@@ -1,4 +1,8 @@
 // What the program says of each line, and at the end.
+ghost use Rattle.std.specs.Prelude.{◌≡◌, ◌||◌, true, is_some};
+ghost use Rattle.cast.specs.Commands.{command_of};
+ghost use Rattle.cast.specs.Plays.{may_open};
+
 use crate::play::{Hall, Rested};
 use crate::script::{Command, Forgery, Offer, parse};
 use crate::till::{Fault, Till};
@@ -25,7 +29,9 @@ impl Line<'_> {
         Ok(())
     }
 
-    fn open_hall(self, hall: &mut Option<Hall>, n: u8) -> anyhow::Result<ControlFlow<()>> {
+    fn open_hall(self, hall: &mut Option<Hall>, n: u8) -> anyhow::Result<ControlFlow<()>>
+        ensures { is_some hall.old ≡ true → is_some hall.new ≡ true }
+    {
         match Hall::open(self.rt.alloc(), n) {
             Ok(opened) => {
                 *hall = Some(opened);
@@ -90,7 +96,9 @@ impl Line<'_> {
     }
 
     // Plays a line that is of one of the forms, if there is a hall.
-    fn play_command(self, hall: &mut Option<Hall>, command: Command) -> anyhow::Result<()> {
+    fn play_command(self, hall: &mut Option<Hall>, command: Command) -> anyhow::Result<()>
+        ensures { is_some hall.new ≡ is_some hall.old }
+    {
         let Some(hall) = hall else {
             return self.say_not_understood();
         };
@@ -103,8 +111,11 @@ impl Line<'_> {
         }
     }
 
-    // Plays the line, and says whether the play goes on; only a refused hall ends it.
-    fn play(self, hall: &mut Option<Hall>, text: &[u8]) -> anyhow::Result<ControlFlow<()>> {
+    // Plays the line, and says whether the play goes on; only a refused hall ends it. A hall opens at the first line alone.
+    fn play(self, hall: &mut Option<Hall>, text: &[u8]) -> anyhow::Result<ControlFlow<()>>
+        ensures stays { is_some hall.old ≡ true → is_some hall.new ≡ true }
+        ensures opens { is_some hall.new ≡ true → (is_some hall.old || may_open self.entry.number (command_of text.now)) ≡ true }
+    {
         match parse(text) {
             Some(Command::Hall(n)) if self.number == 1 => return self.open_hall(hall, n),
             Some(command) => self.play_command(hall, command)?,

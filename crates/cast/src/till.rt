@@ -1,9 +1,12 @@
 // One till of the hall: its replica, in its state, and the tables that the till lends it.
-ghost use Rattle.std.specs.Prelude.{◌≡◌, true, false, is_ok, Some, Err, IfOk};
+ghost use Rattle.std.specs.Prelude.{◌≡◌, ◌<◌, T, true, false, is_ok, length, Some, Err, IfOk, IfErr};
 ghost use Rattle.std.specs.Option.{option_map};
 ghost use Rattle.sheets.specs.OfTakings.{takings_bytes};
-ghost use Rattle.cast.specs.declared.till.Fault.TheVariants.{Refused};
-ghost use Rattle.cast.specs.States.{is_fresh, is_running, numbers_in, offer_left, delivered_of, fault_told, heard_of, said_of, said_output};
+ghost use Rattle.basis.specs.Halls.{listed};
+ghost use Rattle.broadcast.specs.Calls.{Opened, Fresh as NotOffered, of_hall};
+ghost use Rattle.sheets.specs.OfTakings.{takings_lawful, takings_rows};
+ghost use Rattle.cast.specs.declared.till.Fault.TheVariants.{Refused, Memory as IsMemory};
+ghost use Rattle.cast.specs.States.{is_fresh, is_running, numbers_in, offer_left, delivered_of, fault_told, heard_of, heard_left, offered_of, said_of, said_output};
 
 use crate::script::Amount;
 use basis::heard::Heard;
@@ -38,12 +41,16 @@ impl From<Refusal> for Fault {
 }
 
 impl From<AllocError> for Fault {
+    ghost from_gives = { λ e fault. fault ≡ IsMemory };
+
     fn from(_e: AllocError) -> Fault {
         Fault::Memory
     }
 }
 
 impl<T: Drop> From<AllocFailed<T>> for Fault {
+    ghost from_gives = { λ e fault. fault ≡ IsMemory };
+
     fn from(_e: AllocFailed<T>) -> Fault {
         Fault::Memory
     }
@@ -70,6 +77,7 @@ impl State {
         ensures again { is_fresh self ≡ false → result ≡ (self, Err Fault.Misplaced) }
         ensures first { is_fresh self ≡ true → is_running result.0 ≡ is_ok result.1 }
         ensures numbers { numbers_in result.0 ≡ numbers_in self }
+        ensures answer { fault_told result.1 ≡ offered_of self (length records.old) rounds (length places.old) }
         ensures left { record { records = records.exit.now; places = places.new } ≡ offer_left self rounds (takings_bytes sheet.now) (record { records = records.entry.now; places = places.old }) }
     {
         match self {
@@ -97,6 +105,8 @@ impl Till {
     pub fn open(heap: Global, n: u8, number: u8) -> Result<Till, Fault>
         ensures numbers { IfOk result (λ t. numbers_in t.state ≡ Some (record { n = n; own = number })) }
         ensures number { IfOk result (λ t. t.number ≡ number) }
+        ensures opened { IfOk result (λ t. Opened takings_rows (of_hall n 12 takings_lawful) (record { life = NotOffered; slots = record { records = t.records.items; places = t.places.items }; rounds = t.rounds })) }
+        ensures fails { T (listed n) → number < n → IfErr result (λ e. e ≡ IsMemory) }
     {
         let size = usize::from(n);
         let mut records = vec![in heap; Slot { delivered: None }; size]?;
@@ -150,7 +160,9 @@ impl Till {
 
     // Hears a packet from a sender, if the till has offered.
     pub fn hear(&mut self, sender: u8, packet: &[u8]) -> Result<Heard, Fault>
-        ensures { fault_told result ≡ heard_of self.old.state sender packet.now self.old.rounds (record { records = self.old.records.items; places = self.old.places.items }) }
+        ensures state { self.new.state ≡ self.old.state }
+        ensures left { record { records = self.new.records.items; places = self.new.places.items } ≡ heard_left self.old.state sender packet.now self.old.rounds (record { records = self.old.records.items; places = self.old.places.items }) }
+        ensures answer { fault_told result ≡ heard_of self.old.state sender packet.now self.old.rounds (record { records = self.old.records.items; places = self.old.places.items }) }
     {
         let State::Running(running) = &self.state else {
             return Err(Fault::Misplaced);

@@ -1,5 +1,5 @@
 -- A toss with f wrong shares in the worst place, and what taking its shares leaves. Assumes nothing.
-use Rattle.std.specs.Prelude.{ℕ, zero, suc, ◌+◌, ◌-◌, ◌*◌, ◌/◌, ◌%◌, ◌^◌, Bool, true, false, cond, List, Some, None, codes, Option, ◌==◌, nat_lt}
+use Rattle.std.specs.Prelude.{ℕ, zero, suc, ◌+◌, ◌-◌, ◌*◌, ◌/◌, ◌%◌, ◌^◌, Bool, true, false, cond, List, Some, None, codes, Option, ◌&&◌, ◌||◌, ◌==◌, nat_le, nat_lt}
 use Rattle.basis.specs.Halls.{faults}
 use Rattle.coins.specs.declared.share.Share.{Share}
 use Rattle.coins.specs.declared.share_coin.ShareCoin.{ShareCoin}
@@ -10,9 +10,9 @@ use Rattle.coins.specs.Shared.{share_acts}
 abbrev pub right_value : ℕ → ℕ → ℕ
 right_value f z = (z + 7) ^ f % 251
 
--- how far replica j's share is off: one too much at the f lowest replicas
+-- how far replica j's share is off: one too much at f replicas, the lowest of each half
 abbrev pub error_of : ℕ → ℕ → ℕ
-error_of n j = cond (nat_lt j (faults n)) 1 0
+error_of n j = cond (nat_lt j (n / 2 - faults n) || (nat_le (n / 2) j && nat_lt j (2 * faults n))) 1 0
 
 -- replica j's share
 abbrev pub dealt_value : ℕ → ℕ → ℕ

@@ -1,4 +1,5 @@
-// A toss with f wrong shares in the worst place: at the lowest replicas, so that the right choice is the last one.
+// A toss with f wrong shares in the worst place: the lower half of the hall has not f + 1 right ones, and those of the
+// upper half are its highest, so that the right choice is the last one.
 ghost use Rattle.std.specs.Prelude.{◌≡◌, ◌<◌, ◌≤◌, IfOk};
 ghost use Rattle.coin_bench.specs.Scenes.{right_value, error_of, dealt_value, taken_between};
 
@@ -42,11 +43,13 @@ fn right_value_at(f: u8, z: u8) -> u8
     v as u8
 }
 
-// How far replica j's share is off: one too much at the f lowest replicas.
+// How far replica j's share is off: one too much at f replicas, the lowest of each half.
 fn error_at(n: u8, j: u8) -> u32
     ensures { result ≡ error_of n j }
 {
-    u32::from(j < fault_limit(n))
+    let f = fault_limit(n);
+    let middle = n / 2;
+    u32::from(j < middle - f || j >= middle && j < 2 * f)
 }
 
 // Replica j's share.

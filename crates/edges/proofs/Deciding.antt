@@ -41,41 +41,21 @@ abbrev none : Round
 none = says 32 1 0 (begun 1 cleared)
 
 module _ {C : Type 0} (b : Coin-acts C) (c : C) where
-  -- after proposing 1 no step is left
-  one_waits : (third : Bool) → swept third b (with_opening one unopened) (start c) ≡ waiting one c
+  -- After proposing 1 no step is left; a second vote 1 of one other brings about nothing; those of two others decide 1.
+  ones : (third : Bool) → (swept third b (with_opening one unopened) (start c) ≡ waiting one c)
+      × (swept third b (with_opening (says 33 2 1 one) unopened) (waiting one c) ≡ waiting (says 33 2 1 one) c)
+      × (seen_in (swept third b (with_opening (says 33 2 2 (says 33 2 1 one)) unopened) (waiting (says 33 2 1 one) c)) ≡ record { decided = 2; entered = 2; first_zero = false; first_one = true; second_zero = false; second_one = true })
   unfolding count settled admitted enough union admits ready_to_leave tally later_settled
-  one_waits true = refl
-  one_waits false = refl
+  ones true = (refl, refl, refl)
+  ones false = (refl, refl, refl)
 
-  -- a second vote 1 of one other brings about nothing
-  one_more : (third : Bool) → swept third b (with_opening (says 33 2 1 one) unopened) (waiting one c) ≡ waiting (says 33 2 1 one) c
+  -- After proposing 0 no step is left; a first vote 1 of one other brings about nothing; those of two others are joined.
+  nones : (third : Bool) → (swept third b (with_opening none unopened) (start c) ≡ waiting none c)
+      × (swept third b (with_opening (says 32 2 1 none) unopened) (waiting none c) ≡ waiting (says 32 2 1 none) c)
+      × (seen_in (swept third b (with_opening (says 32 2 2 (says 32 2 1 none)) unopened) (waiting (says 32 2 1 none) c)) ≡ record { decided = 0; entered = 0; first_zero = true; first_one = true; second_zero = false; second_one = true })
   unfolding count settled admitted enough union admits ready_to_leave tally later_settled
-  one_more true = refl
-  one_more false = refl
-
-  -- those of two others decide 1
-  two_more : (third : Bool) → seen_in (swept third b (with_opening (says 33 2 2 (says 33 2 1 one)) unopened) (waiting (says 33 2 1 one) c)) ≡ record { decided = 2; entered = 2; first_zero = false; first_one = true; second_zero = false; second_one = true }
-  unfolding count settled admitted enough union admits ready_to_leave tally later_settled
-  two_more true = refl
-  two_more false = refl
-
-  -- after proposing 0 no step is left
-  none_waits : (third : Bool) → swept third b (with_opening none unopened) (start c) ≡ waiting none c
-  unfolding count settled admitted enough union admits ready_to_leave tally later_settled
-  none_waits true = refl
-  none_waits false = refl
-
-  -- a first vote 1 of one other brings about nothing
-  one_first : (third : Bool) → swept third b (with_opening (says 32 2 1 none) unopened) (waiting none c) ≡ waiting (says 32 2 1 none) c
-  unfolding count settled admitted enough union admits ready_to_leave tally later_settled
-  one_first true = refl
-  one_first false = refl
-
-  -- those of two others are joined
-  two_firsts : (third : Bool) → seen_in (swept third b (with_opening (says 32 2 2 (says 32 2 1 none)) unopened) (waiting (says 32 2 1 none) c)) ≡ record { decided = 0; entered = 0; first_zero = true; first_one = true; second_zero = false; second_one = true }
-  unfolding count settled admitted enough union admits ready_to_leave tally later_settled
-  two_firsts true = refl
-  two_firsts false = refl
+  nones true = (refl, refl, refl)
+  nones false = (refl, refl, refl)
 
 -- a ballot that nobody proposed in, and cleared rounds
 pub fresh : {C : Type 0} (x : Ballot) (r : PhasedRound) (c : C) → ballot_meaning x ≡ unopened → meaning_of r ≡ cleared → state_of x (replicate 15 r) c ≡ start c
@@ -102,20 +82,20 @@ back x y e =
 module _ {C : Type 0} (third : Bool) (b : Coin-acts C) (c : C) (x : Standing) (s p q : BallotState C) (e : s ≡ start c) where
   -- replica 0 proposed 1, and hears second votes 1 of replicas 1 and 2
   hears_one : p ≡ proposed third b 2 s → q ≡ heard third b 33 1 p → q ≡ waiting (says 33 2 1 one) c
-  hears_one f g = g ∙ ap (heard third b 33 1) (f ∙ ap (proposed third b 2) e ∙ by_sweep third b _ (start c) ∙ one_waits b c third) ∙ by_sweep third b _ (waiting one c) ∙ one_more b c third
+  hears_one f g = g ∙ ap (heard third b 33 1) (f ∙ ap (proposed third b 2) e ∙ by_sweep third b _ (start c) ∙ (ones b c third).0) ∙ by_sweep third b _ (waiting one c) ∙ (ones b c third).1
 
   pub undecided_by_two : p ≡ proposed third b 2 s → q ≡ heard third b 33 1 p → seen_of x ≡ seen_in q → x ≡ record { decided = None; entered = None; first_zero = false; first_one = true; second_zero = false; second_one = true }
   undecided_by_two f g h = back x _ (h ∙ ap seen_in (hears_one f g))
 
   pub decided_by_three : (r : BallotState C) → p ≡ proposed third b 2 s → q ≡ heard third b 33 1 p → r ≡ heard third b 33 2 q → seen_of x ≡ seen_in r → x ≡ record { decided = Some true; entered = Some true; first_zero = false; first_one = true; second_zero = false; second_one = true }
-  decided_by_three r f g k h = back x _ (h ∙ ap seen_in (k ∙ ap (heard third b 33 2) (hears_one f g) ∙ by_sweep third b _ (waiting (says 33 2 1 one) c)) ∙ two_more b c third)
+  decided_by_three r f g k h = back x _ (h ∙ ap seen_in (k ∙ ap (heard third b 33 2) (hears_one f g) ∙ by_sweep third b _ (waiting (says 33 2 1 one) c)) ∙ (ones b c third).2)
 
   -- replica 0 proposed 0, and hears first votes 1 of replicas 1 and 2
   hears_first : p ≡ proposed third b 1 s → q ≡ heard third b 32 1 p → q ≡ waiting (says 32 2 1 none) c
-  hears_first f g = g ∙ ap (heard third b 32 1) (f ∙ ap (proposed third b 1) e ∙ by_sweep third b _ (start c) ∙ none_waits b c third) ∙ by_sweep third b _ (waiting none c) ∙ one_first b c third
+  hears_first f g = g ∙ ap (heard third b 32 1) (f ∙ ap (proposed third b 1) e ∙ by_sweep third b _ (start c) ∙ (nones b c third).0) ∙ by_sweep third b _ (waiting none c) ∙ (nones b c third).1
 
   pub silent_by_one : p ≡ proposed third b 1 s → q ≡ heard third b 32 1 p → seen_of x ≡ seen_in q → x ≡ record { decided = None; entered = None; first_zero = true; first_one = false; second_zero = false; second_one = false }
   silent_by_one f g h = back x _ (h ∙ ap seen_in (hears_first f g))
 
   pub joined_by_two : (r : BallotState C) → p ≡ proposed third b 1 s → q ≡ heard third b 32 1 p → r ≡ heard third b 32 2 q → seen_of x ≡ seen_in r → x ≡ record { decided = None; entered = None; first_zero = true; first_one = true; second_zero = false; second_one = true }
-  joined_by_two r f g k h = back x _ (h ∙ ap seen_in (k ∙ ap (heard third b 32 2) (hears_first f g) ∙ by_sweep third b _ (waiting (says 32 2 1 none) c)) ∙ two_firsts b c third)
+  joined_by_two r f g k h = back x _ (h ∙ ap seen_in (k ∙ ap (heard third b 32 2) (hears_first f g) ∙ by_sweep third b _ (waiting (says 32 2 1 none) c)) ∙ (nones b c third).2)

@@ -15,7 +15,7 @@ use Rattle.coins.specs.declared.share_coin.ShareCoin.{ShareCoin}
 use Rattle.coins.specs.Coins.{Tossed, Takes, before, left_by, take_after}
 use Rattle.coins.specs.Shared.{share_acts, toss_at, holds, held_share, coin_told, MadeOf}
 use Rattle.coins.specs.Keeping.{shared_keeps, shows_exactly}
-use Rattle.edges.specs.Tosses.{share_from, HasTaken, nothing, with_share}
+use Rattle.edges.specs.Tosses.{sent_share, HasTaken, nothing, with_share}
 
 first : Tossed 0 1
 first = record { ballot_below = omega arith; round_from = omega arith; round_to = omega arith }
@@ -43,7 +43,7 @@ fresh (Ok c) e m = record {
 fresh (Err x) e m = tt
 
 -- one share more is taken
-pub more : (t : ℕ → Option ℕ) (c : ShareCoin) (j v : ℕ) → j < 16 → v ≤ 250 → t j ≡ None → HasTaken t c → HasTaken (with_share j v t) (take_after share_acts c (share_from j v))
+pub more : (t : ℕ → Option ℕ) (c : ShareCoin) (j v : ℕ) → j < 16 → v ≤ 250 → t j ≡ None → HasTaken t c → HasTaken (with_share j v t) (take_after share_acts c (sent_share j v))
 more t c j v l lv e h = subst (HasTaken (with_share j v t)) same (record {
   sound = shared_keeps.stays_sound c s takes;
   hall = h.hall;
@@ -53,7 +53,7 @@ more t c j v l lv e h = subst (HasTaken (with_share j v t)) same (record {
 })
   where
     s : Share
-    s = share_from j v
+    s = sent_share j v
 
     none : before share_acts c s ≡ None
     none = h.taken j l ∙ e
@@ -115,19 +115,19 @@ shows t c held share h f g = one_shown 4 (has held) share _ _ four exact (shown_
 abbrev two : ℕ → Option ℕ
 two = with_share 2 7 (with_share 1 6 nothing)
 
-two_taken : (c a b : ShareCoin) → HasTaken nothing c → a ≡ take_after share_acts c (share_from 1 6) → b ≡ take_after share_acts a (share_from 2 7) → HasTaken two b
+two_taken : (c a b : ShareCoin) → HasTaken nothing c → a ≡ take_after share_acts c (sent_share 1 6) → b ≡ take_after share_acts a (sent_share 2 7) → HasTaken two b
 two_taken c a b h e f =
     let one = subst (HasTaken (with_share 1 6 nothing)) (sym e) (more nothing c 1 6 (omega arith) (omega arith) refl h) in
     subst (HasTaken two) (sym f) (more (with_share 1 6 nothing) a 2 7 (omega arith) (omega arith) refl one)
 
 -- with the own share they show nothing
-pub three_show_none : (c a b : ShareCoin) → HasTaken nothing c → a ≡ take_after share_acts c (share_from 1 6) → b ≡ take_after share_acts a (share_from 2 7) → share_acts.shown b 0 1 ≡ None
+pub three_show_none : (c a b : ShareCoin) → HasTaken nothing c → a ≡ take_after share_acts c (sent_share 1 6) → b ≡ take_after share_acts a (sent_share 2 7) → share_acts.shown b 0 1 ≡ None
 unfolding has count inv plus times newton slope through first_of shown_of
 three_show_none c a b h e f =
     shows two b 7 (at (3 ∷ 6 ∷ 7 ∷ 0 ∷ [])) (two_taken c a b h e f) (below_four _ refl refl refl refl) (below_four _ refl refl refl refl) ∙ refl
 
 -- and with 9 of replica 3 they show 1
-pub four_show_one : (c a b d : ShareCoin) → HasTaken nothing c → a ≡ take_after share_acts c (share_from 1 6) → b ≡ take_after share_acts a (share_from 2 7) → d ≡ take_after share_acts b (share_from 3 9) → share_acts.shown d 0 1 ≡ Some true
+pub four_show_one : (c a b d : ShareCoin) → HasTaken nothing c → a ≡ take_after share_acts c (sent_share 1 6) → b ≡ take_after share_acts a (sent_share 2 7) → d ≡ take_after share_acts b (sent_share 3 9) → share_acts.shown d 0 1 ≡ Some true
 unfolding has count inv plus times newton slope through first_of shown_of
 four_show_one c a b d h e f g =
     let all = subst (HasTaken (with_share 3 9 two)) (sym g) (more two b 3 9 (omega arith) (omega arith) refl (two_taken c a b h e f)) in

@@ -5,8 +5,8 @@ use Rattle.coins.specs.declared.share_coin.ShareCoin.{ShareCoin}
 use Rattle.coins.specs.Shared.{share_acts, Sound}
 
 -- a share of replica j for ballot 0 and round 1
-abbrev pub share_from : ℕ → ℕ → Share
-share_from j v = record { ballot = 0; round = 1; sender = j; value = v }
+abbrev pub sent_share : ℕ → ℕ → Share
+sent_share j v = record { ballot = 0; round = 1; sender = j; value = v }
 
 -- a coin of replica 0 of four whose own share is 3, and which has taken exactly these shares of the others
 pub record HasTaken (shares : ℕ → Option ℕ) (c : ShareCoin) : Type 0 where

@@ -2,7 +2,7 @@
 ghost use Rattle.std.specs.Prelude.{◌≡◌, ◌<◌, ◌≤◌, true, Ok, Some, None, IfOk};
 ghost use Rattle.coins.specs.Coins.{take_after};
 ghost use Rattle.coins.specs.Shared.{share_acts, coin_told};
-ghost use Rattle.edges.specs.Tosses.{share_from, HasTaken, nothing};
+ghost use Rattle.edges.specs.Tosses.{sent_share, HasTaken, nothing};
 
 use basis::refusal::Refusal;
 use coins::coin::Coin;
@@ -22,7 +22,7 @@ fn new_coin() -> Result<ShareCoin, Refusal>
 fn take_share(coin: &mut ShareCoin, sender: u8, value: u8)
     requires sender { sender < 16 }
     requires value { value ≤ 250 }
-    ensures { coin.new ≡ take_after share_acts coin.old (share_from sender value) }
+    ensures { coin.new ≡ take_after share_acts coin.old (sent_share sender value) }
 {
     let _ = coin.take(Share {
         ballot: 0,

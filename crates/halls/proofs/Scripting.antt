@@ -17,7 +17,7 @@ use Rattle.halls.specs.Halls.{scene_of}
 use Rattle.halls.specs.Plays.{Continued, record_of}
 use Rattle.halls.specs.Prints.{split_lines}
 use Rattle.halls.specs.Scenes.{Scene, shown, till, nobody, by_life, offering, closing, close_left, closed_scene, opening_told, offer_told}
-use Rattle.halls.specs.Scripts.{Printed, closes, list_of, unless_problem, closing_prints, prints_before, prints_after, command_prints, command_leaves, scene_in, Follows, Script, begun, played, Among, ScriptsAlike, Plays, stop_of}
+use Rattle.halls.specs.Scripts.{Printed, closes, list_of, unless_problem, opening_prints, closing_prints, prints_before, prints_after, command_prints, command_leaves, scene_in, Follows, Script, begun, played, Among, ScriptsAlike, Plays, stop_of}
 use Rattle.halls.specs.declared.player.Stop.{Stop}
 use Rattle.halls.specs.declared.player.Stop.TheVariants.{Fault}
 use Rattle.halls.specs.States.{Held, is_closed}
@@ -93,6 +93,10 @@ quiet_line : {X : Type 0} (r : Result X Problem) (i : ℕ) (x : List ℕ) {P : T
 quiet_line (Ok u) i x e = no cc
 quiet_line (Err p) i x e = no cc
 
+quiet_opening : {X : Type 0} (r : Result X Problem) (i : ℕ) (x : List ℕ) {P : Type 0} → opening_prints r ≡ Some (closes i x) → P
+quiet_opening (Ok u) i x e = no cc
+quiet_opening (Err p) i x e = no cc
+
 closing_listed : (j i : ℕ) (y x : List ℕ) (r : Result (Unit {0}) Problem) → closing_prints j y r ≡ Some (closes i x) → (r ≡ Ok tt) × (j ≡ i) × (y ≡ x)
 closing_listed j i y x (Ok u) e = (refl, cc, cc)
 closing_listed j i y x (Err misplaced) e = no cc
@@ -116,7 +120,7 @@ some_scene e = cc
 -- a line that printed a list has closed a till
 new_in : (h h' : Option AHall) (c : Option Command) (i : ℕ) (x : List ℕ) → scene_in h' ≡ command_leaves (scene_in h) c → command_prints (scene_in h) c ≡ Some (closes i x) → ListedIn h' i x
 new_in h h' None i x left e = no cc
-new_in None h' (Some (Hall n rule coin)) i x left e = quiet_line (opening_told rule n coin) i x e
+new_in None h' (Some (Hall n rule coin)) i x left e = quiet_opening (opening_told rule n coin) i x e
 new_in None h' (Some (Offer j z k)) i x left e = no cc
 new_in None h' (Some Rest) i x left e = no cc
 new_in None h' (Some (Close j)) i x left e = no cc

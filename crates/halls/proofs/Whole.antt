@@ -1,11 +1,10 @@
 -- A whole script is printed, line after line. Assumes nothing.
-use Rattle.std.proofs.Common.{◌≡◌, ℕ, ◌+◌, Bool, true, false, cond, List, [], ◌∷◌, ◌++◌, Some, None, Ok, Err, Option, refl, sym, ap, ap₂, ◌∙◌, string_bytes}
+use Rattle.std.proofs.Common.{◌≡◌, ℕ, ◌+◌, true, false, List, [], ◌∷◌, ◌++◌, Some, None, Ok, Err, Option, refl, sym, ap, ap₂, ◌∙◌, string_bytes}
 use Rattle.std.specs.Prelude.{String, is_some}
-use Rattle.std.proofs.lemmas.Bool.{cond-true, cond-false, false≢true}
+use Rattle.std.proofs.lemmas.Bool.{cond-true, cond-false}
 use Rattle.std.proofs.lemmas.List.{append_assoc, append-nil}
-use Rattle.text.specs.Lines.{lines, lines_from}
 use Rattle.halls.specs.Scenes.{Scene}
-use Rattle.halls.specs.Scripts.{Printed, Plays, Leaves, Added, fault_line, shown_of, text_of, line_prints, line_leaves, printed_from}
+use Rattle.halls.specs.Scripts.{Printed, Plays, Leaves, Added, fault_line, shown_of, line_prints, line_leaves, printed_from}
 use Rattle.halls.specs.declared.player.Stop.{Stop}
 use Rattle.halls.specs.declared.player.Stop.TheVariants.{Fault, Memory}
 use Rattle.halls.proofs.Closed.{no}

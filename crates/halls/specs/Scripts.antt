@@ -1,5 +1,5 @@
 -- What the lines of a script come to: what each prints, what hall it leaves, and a whole script at play. Assumes nothing.
-use Rattle.std.specs.Prelude.{◌≡◌, ℕ, ◌+◌, Bool, cond, List, [], ◌∷◌, ◌++◌, ◌⊎◌, codes, is_some, Some, None, Ok, Err, Option, Result, String, string_bytes, nat_lt}
+use Rattle.std.specs.Prelude.{◌≡◌, ℕ, ◌+◌, Bool, true, false, cond, List, [], ◌∷◌, ◌++◌, ◌⊎◌, codes, is_some, Some, None, Ok, Err, Option, Result, String, string_bytes, nat_lt}
 use Rattle.std.specs.Fmt.{decimal}
 use Rattle.text.specs.Lines.{lines}
 use Rattle.outcomes.specs.Closing.{closing_view}
@@ -18,13 +18,16 @@ use Rattle.halls.specs.declared.hall.Hall.{Hall as AHall}
 use Rattle.halls.specs.declared.player.Stop.{Stop}
 use Rattle.halls.specs.declared.player.Stop.TheVariants.{Fault, Memory}
 
--- what a line prints: nothing; that a till closes, with the lines of its closing record; or that its close is refused
+-- what a line prints: nothing, as it opens a hall or in one; that a till closes, with the lines of its closing record; or that
+-- its close is refused
 pub data Printed : Type 0 where
+  opens : Printed
   nothing : Printed
   closes : (till : ℕ) (lines : List ℕ) → Printed
   refuses : (till number place : ℕ) → Printed
 
 abbrev pub text_of : Printed → List ℕ
+text_of opens = []
 text_of nothing = []
 text_of (closes i x) = closes_text i x
 text_of (refuses i k p) = refused_text i k p
@@ -37,6 +40,11 @@ list_of n h = record_lines takings_rows n (closing_view h) 12 1
 abbrev pub unless_problem : {X : Type 0} → Result X Problem → Option Printed
 unless_problem (Ok x) = Some nothing
 unless_problem (Err e) = None
+
+-- a hall opens, where there is no problem
+abbrev pub opening_prints : {X : Type 0} → Result X Problem → Option Printed
+opening_prints (Ok x) = Some opens
+opening_prints (Err e) = None
 
 -- what closing till i prints, by what close answers
 abbrev pub closing_prints : ℕ → List ℕ → Result (Unit {0}) Problem → Option Printed
@@ -51,7 +59,7 @@ opened_scene (Err e) = None
 
 -- what a command prints, before the hall line and after it, and none where it is a fault of the script
 abbrev pub prints_before : Command → Option Printed
-prints_before (Hall n rule coin) = unless_problem (opening_told rule n coin)
+prints_before (Hall n rule coin) = opening_prints (opening_told rule n coin)
 prints_before (Offer i cents receipts) = None
 prints_before Rest = None
 prints_before (Close i) = None
@@ -92,14 +100,22 @@ line_prints s line = command_prints s (command_of line)
 abbrev pub line_leaves : Option Scene → List ℕ → Option Scene
 line_leaves s line = command_leaves s (command_of line)
 
--- a play's answer is the text of what is printed, or that the line is a fault; where it is none, memory may have run out
+-- what takes memory: the tables of a hall, and what a close prints
+abbrev pub needs_memory : Printed → Bool
+needs_memory opens = true
+needs_memory nothing = false
+needs_memory (closes i x) = true
+needs_memory (refuses i k p) = true
+
+-- a play's answer is the text of what is printed, or that the line is a fault; where it is none, and takes memory, that may
+-- have run out
 abbrev pub Plays : {A : Type 0} → Result (String A) Stop → Option Printed → Type 0
 Plays (Ok s) None = ⊥
 Plays (Ok s) (Some p) = string_bytes s ≡ text_of p
 Plays (Err Fault) None = Unit {0}
 Plays (Err Fault) (Some p) = ⊥
 Plays (Err Memory) None = ⊥
-Plays (Err Memory) (Some p) = Unit {0}
+Plays (Err Memory) (Some p) = needs_memory p ≡ true
 
 -- the hall that is left is the one expected; where memory ran out, it may be as before
 abbrev pub Leaves : {A : Type 0} → Result (String A) Stop → Option Scene → Option Scene → Option Scene → Type 0

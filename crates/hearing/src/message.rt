@@ -23,6 +23,7 @@ use rules::rule::Rule;
 use sheets::sheet::Sheet;
 
 // Records a message under its sender, where it is new.
+#[inline(always)]
 pub fn note_message<S: Sheet, R: Rule, C: Coin>(
     records: &mut [OpeningRecord],
     rounds: &mut [R::Record],

@@ -33,6 +33,7 @@ fn at_value(heard: Result<Heard, Reason>) -> Result<Heard, Refusal>
 }
 
 // Records a lawful sheet, where it is new.
+#[inline(always)]
 pub fn note_sheet<S: Sheet>(
     places: &mut [S::Row],
     n: u8,
@@ -61,6 +62,7 @@ pub fn note_sheet<S: Sheet>(
 }
 
 // Records a vote, where it is new: one of round 0 in its ballot's record, the others by the rule.
+#[inline(always)]
 pub fn note_vote<R: Rule>(
     records: &mut [OpeningRecord],
     rounds: &mut [R::Record],
@@ -86,6 +88,7 @@ pub fn note_vote<R: Rule>(
 }
 
 // Takes a share, where it is new.
+#[inline(always)]
 pub fn note_share<C: Coin>(coin: &mut C, share: Share) -> Result<Heard, Refusal>
     requires { Lawful share }
     ensures answer { told result ≡ placed_at_value (take_answer C.acts coin.old share) }

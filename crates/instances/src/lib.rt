@@ -2,4 +2,5 @@
 #![tactic(auto)]
 
 pub mod labels;
+pub mod tables;
 pub mod takings;

@@ -1,4 +1,5 @@
-// Reading a message from a packet: the checks in their order, each with its number and place.
+// Reading a message from a packet: the checks in their order, each with its number and place. All of it is inlined, so
+// that no message, and no refusal, passes through memory on the way to the call that hears it.
 ghost use Rattle.std.specs.Prelude.{◌≡◌, ◌+◌, ◌≤◌, cond, length, IfOk, Ok, slice_index};
 ghost use Rattle.basis.specs.Refusals.{refused, told};
 ghost use Rattle.messages.specs.Tags.{phase_tag, vote_tag, kind_tag, kind_shape};
@@ -28,6 +29,7 @@ pub fn body_len<S: Sheet>(shape: Shape) -> usize
 }
 
 // The kind of a packet that is one whole message with a used tag and its right length.
+#[inline(always)]
 fn read_head<S: Sheet>(packet: &[u8], format: Format) -> Result<Kind, Refusal>
     ensures answer { kind_told result ≡ head_reading (syntax S.Sheet.LEN S.Sheet.lawful format) packet.now }
     ensures tag { IfOk result (λ k. kind_tag k ≡ slice_index packet.now 0) }
@@ -60,6 +62,7 @@ fn read_round(packet: &[u8], first: u8) -> Result<u8, Refusal>
     Ok(round)
 }
 
+#[inline(always)]
 fn read_sheet<'a, S: Sheet>(
     packet: &'a [u8],
     format: Format,
@@ -80,6 +83,7 @@ fn read_sheet<'a, S: Sheet>(
     })
 }
 
+#[inline(always)]
 fn read_bit<'a, S: Sheet>(
     packet: &'a [u8],
     format: Format,
@@ -101,6 +105,7 @@ fn read_bit<'a, S: Sheet>(
     })
 }
 
+#[inline(always)]
 fn read_set<'a, S: Sheet>(
     packet: &'a [u8],
     format: Format,
@@ -122,6 +127,7 @@ fn read_set<'a, S: Sheet>(
     })
 }
 
+#[inline(always)]
 fn read_share<'a, S: Sheet>(packet: &'a [u8], format: Format) -> Result<Message<Part<'a>>, Refusal>
     requires { 6 ≤ length packet.now }
     ensures { plain result ≡ value_reading (syntax S.Sheet.LEN S.Sheet.lawful format) packet.now Shape.Share }
@@ -138,6 +144,7 @@ fn read_share<'a, S: Sheet>(packet: &'a [u8], format: Format) -> Result<Message<
 }
 
 // The slot, the round and the value of a packet whose length is right for its kind.
+#[inline(always)]
 fn read_body<'a, S: Sheet>(
     packet: &'a [u8],
     format: Format,
@@ -160,6 +167,7 @@ fn read_body<'a, S: Sheet>(
 
 // The message that a packet is, its sheet as that part of the packet; or the first check that fails, with its place.
 // A packet is accepted exactly if it is the writing of a lawful message, which is then the one read.
+#[inline(always)]
 pub fn read<'a, S: Sheet>(packet: &'a [u8], format: Format) -> Result<Message<Part<'a>>, Refusal>
     ensures answer { plain result ≡ reading (syntax S.Sheet.LEN S.Sheet.lawful format) packet.now }
     ensures exact { Exact (syntax S.Sheet.LEN S.Sheet.lawful format) }

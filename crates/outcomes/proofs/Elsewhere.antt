@@ -9,7 +9,7 @@ use Rattle.broadcast.proofs.Tables.{places_apart, noted_other}
 use Rattle.messages.specs.declared.message.Phase.{Phase}
 use Rattle.messages.specs.declared.message.Phase.TheVariants.{Send, Echo, Ready}
 use Rattle.sheets.specs.Holds.{Rows, holds}
-use Rattle.slots.specs.Places.{or_else, recorded, reaches, backed, leader, sheet_of, to_ready}
+use Rattle.slots.specs.Places.{or_else, recorded, reaches, backed, lowest_backed, sheet_of, to_ready}
 use Rattle.slots.specs.declared.slot.Slot.{Slot}
 use Rattle.slots.specs.Steps.{Slots, cleared, unless, noted, echo_due, ready_due, delivery_due, delivered_by, next, go_on, settled}
 
@@ -32,16 +32,16 @@ module _ {R : Type 0} (rows : Rows R) (n own k : ℕ) where
     delivery = y.delivery ∙ x.delivery;
   }
 
-  -- so are the leader and its sheet
+  -- so are the lowest_backed and its sheet
   module _ (ph : Phase) (ps ps' : List R) (same : (j : ℕ) → j < n → recorded rows n ps' ph k j ≡ recorded rows n ps ph k j) (least : ℕ) where
     reach_same : (o : Option (List ℕ)) → reaches rows n ps' ph k least o ≡ reaches rows n ps ph k least o
     reach_same None = refl
     reach_same (Some s) = ap (leb least) (count_same n (λ j. holds s (recorded rows n ps' ph k j)) (λ j. holds s (recorded rows n ps ph k j)) (λ j l. ap (holds s) (same j l)))
 
-    leader_same : (m : ℕ) → m ≤ n → leader rows n ps' ph k least m ≡ leader rows n ps ph k least m
-    unfolding leader
-    leader_same zero le = refl
-    leader_same (suc m) le = ap₂ (λ (a : Option ℕ) (b : Bool). or_else a (cond b (Some m) None)) (leader_same m (omega arith))
+    lowest_backed_same : (m : ℕ) → m ≤ n → lowest_backed rows n ps' ph k least m ≡ lowest_backed rows n ps ph k least m
+    unfolding lowest_backed
+    lowest_backed_same zero le = refl
+    lowest_backed_same (suc m) le = ap₂ (λ (a : Option ℕ) (b : Bool). or_else a (cond b (Some m) None)) (lowest_backed_same m (omega arith))
         (ap (reaches rows n ps' ph k least) (same m (omega arith)) ∙ reach_same (recorded rows n ps ph k m))
 
     abbrev Told : Option ℕ → Type 0
@@ -51,14 +51,14 @@ module _ {R : Type 0} (rows : Rows R) (n own k : ℕ) where
     told_first None b p q = q
     told_first (Some j) b p q = p
 
-    told : (m : ℕ) → m ≤ n → Told (leader rows n ps ph k least m)
-    unfolding leader
+    told : (m : ℕ) → m ≤ n → Told (lowest_backed rows n ps ph k least m)
+    unfolding lowest_backed
     told zero le = refl
-    told (suc m) le = told_first (leader rows n ps ph k least m) (cond (backed rows n ps ph k least m) (Some m) None) (told m (omega arith))
+    told (suc m) le = told_first (lowest_backed rows n ps ph k least m) (cond (backed rows n ps ph k least m) (Some m) None) (told m (omega arith))
         (cond_both (backed rows n ps ph k least m) (Some m) None Told (λ _. same m (omega arith)) (λ _. refl))
 
-    led : sheet_of rows n ps' ph k (leader rows n ps' ph k least n) ≡ sheet_of rows n ps ph k (leader rows n ps ph k least n)
-    led = ap (sheet_of rows n ps' ph k) (leader_same n (omega arith)) ∙ told n (omega arith)
+    led : sheet_of rows n ps' ph k (lowest_backed rows n ps' ph k least n) ≡ sheet_of rows n ps ph k (lowest_backed rows n ps ph k least n)
+    led = ap (sheet_of rows n ps' ph k) (lowest_backed_same n (omega arith)) ∙ told n (omega arith)
 
   abbrev first_of : Slots R → Option (List ℕ) → Option (List ℕ) → Option ℕ → Option (Slots R)
   first_of t a b c = or_else (option_map (noted rows n own k Echo own t) a) (or_else (option_map (noted rows n own k Ready own t) b) (option_map (delivered_by rows n own k t) c))
@@ -75,7 +75,7 @@ module _ {R : Type 0} (rows : Rows R) (n own k : ℕ) where
       let cause : to_ready rows n t'.places k ≡ to_ready rows n t.places k = ap₂ (λ (a b : Option (List ℕ)). or_else a b) (led Echo t.places t'.places s.echoes (quorum n)) (led Ready t.places t'.places s.readies (beyond_faults n)) in
       let p : echo_due rows n own k t' ≡ echo_due rows n own k t = ap₂ (λ (a b : Option (List ℕ)). unless a b) (s.echoes own lo) s.send in
       let q : ready_due rows n own k t' ≡ ready_due rows n own k t = ap₂ (λ (a b : Option (List ℕ)). unless a b) (s.readies own lo) cause in
-      let r : delivery_due rows n own k t' ≡ delivery_due rows n own k t = ap₂ (λ (x : Slot) (o : Option ℕ). unless x.delivered o) s.delivery (leader_same Ready t.places t'.places s.readies (quorum n) n (omega arith)) in
+      let r : delivery_due rows n own k t' ≡ delivery_due rows n own k t = ap₂ (λ (x : Slot) (o : Option ℕ). unless x.delivered o) s.delivery (lowest_backed_same Ready t.places t'.places s.readies (quorum n) n (omega arith)) in
       ap (λ (a : Option (List ℕ)). first_of t' a (ready_due rows n own k t') (delivery_due rows n own k t')) p
       ∙ ap₂ (λ (b : Option (List ℕ)) (c : Option ℕ). first_of t' (echo_due rows n own k t) b c) q r
       ∙ none_first t t' (echo_due rows n own k t) (ready_due rows n own k t) (delivery_due rows n own k t) e

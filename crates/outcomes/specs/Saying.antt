@@ -77,12 +77,12 @@ module _ {R C : Type 0} (g : Setting R C) (n own : ℕ) (h : Holding R C) (from 
   abbrev pub first_if_used : ℕ → Option (Message (List ℕ))
   first_if_used t = cond (uses g.rule.tags t) (first_under own h from n t) None
 
-  abbrev pub first_vote : Option (Message (List ℕ))
-  first_vote = first_of (λ i. first_if_used (32 + i)) 16
+  abbrev pub lowest_vote : Option (Message (List ℕ))
+  lowest_vote = first_of (λ i. first_if_used (32 + i)) 16
 
   -- the first of all: sheet messages, votes by their tags, shares
   abbrev pub next_message : Option (Message (List ℕ))
-  next_message = or_else (next_said g.rows n own h.slots.places from) (or_else first_vote (first_share g.coins own h.coin from n))
+  next_message = or_else (next_said g.rows n own h.slots.places from) (or_else lowest_vote (first_share g.coins own h.coin from n))
 
   -- say: the sizes of the tables, then the first message said at or after the position, or none; the output long enough
   abbrev pub say_answer : List ℕ → Result (Option ℕ) Refused

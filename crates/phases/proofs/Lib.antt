@@ -2,3 +2,4 @@
 pub mod Masks
 pub mod Ending
 pub mod Nothing
+pub mod Finished

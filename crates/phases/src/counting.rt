@@ -2,7 +2,7 @@
 ghost use Rattle.std.specs.Prelude.{◌≡◌, ℕ, ◌+◌, ◌&&◌, ◌||◌, leb, if◌then◌else◌, ◌==◌, nat_le};
 ghost use Rattle.basis.specs.Counts.{has, count};
 ghost use Rattle.basis.specs.Halls.{quorum, beyond_faults};
-ghost use Rattle.rules.specs.Rounds.{bit_set, set_if_any};
+ghost use Rattle.rules.specs.Rounds.{bit_set, set_if_any, voted};
 ghost use Rattle.phases.specs.Phases.{tag_of};
 ghost use Rattle.phases.specs.Records.{meaning_of};
 ghost use Rattle.phases.specs.Steps.{admitted, counted, enough, union};
@@ -86,10 +86,26 @@ impl PhasedRound {
     // Whether 2f + 1 votes of a phase lie within the set of admitted bits.
     #[tactic(auto, using(basis::proofs::Counts::count_cong), unfolding(crate::specs::Steps::enough))]
     #[inline(never)]
-    pub fn has_enough(&self, n: u8, phase: VotePhase) -> bool
+    fn has_enough_admitted(&self, n: u8, phase: VotePhase) -> bool
         ensures { result ≡ enough n (meaning_of self.now) (tag_of phase) }
     {
         self.count_votes(n, phase).is_enough(n)
+    }
+
+    // Whether 2f + 1 have voted in a phase, for whatever bits.
+    #[tactic(auto, using(basis::proofs::Counts::count_cong, basis::proofs::Counts::has_or))]
+    fn has_quorum(&self, n: u8, phase: VotePhase) -> bool
+        ensures { result ≡ nat_le (quorum n) (count n (λ j. voted (tag_of phase) j (meaning_of self.now))) }
+    {
+        let cast = self.votes_in(phase);
+        is_quorum(size_in(cast.zero | (cast.one | cast.both), n), n)
+    }
+
+    // The same; where fewer have voted, the admitted bits are not looked at.
+    pub fn has_enough(&self, n: u8, phase: VotePhase) -> bool
+        ensures { result ≡ enough n (meaning_of self.now) (tag_of phase) }
+    {
+        self.has_quorum(n, phase) && self.has_enough_admitted(n, phase)
     }
 
     // The union of those votes.

@@ -39,6 +39,7 @@ impl PhasedRound {
     }
 
     // Hears a vote: it is recorded where it is new. A vote under another tag than a phase's is new and leaves no trace.
+    #[inline(always)]
     pub fn hear_vote(&mut self, vote: CastVote) -> Result<Heard, Reason>
         requires { vote.sender < 16 }
         ensures answer { numbered result ≡ hear_answer (vote_of vote) (meaning_of self.old) }

@@ -9,5 +9,6 @@ pub mod phased;
 pub mod recording;
 pub mod round;
 pub mod steps;
+pub mod through;
 pub mod vote_phase;
 pub mod votes;

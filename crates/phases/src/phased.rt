@@ -23,7 +23,9 @@ pub type TwoPhase = Phased<false>;
 
 pub type ThreePhase = Phased<true>;
 
-// Takes all steps of a round, in their order; none is left that applies. At rest no round is without its verdict.
+// Takes all steps of a round, in their order; none is left that applies. At rest no round is without its verdict. Kept
+// apart, so that a round that is through costs its test alone.
+#[inline(never)]
 pub fn take_phases<const THIRD: bool>(round: &mut PhasedRound, member: Member)
     ensures left { meaning_of round.new ≡ (acts_of THIRD).steps member.n member.own (meaning_of round.old) }
     ensures none { Idle (steps_of THIRD member.n member.own) (meaning_of round.new) }
@@ -37,6 +39,15 @@ pub fn take_phases<const THIRD: bool>(round: &mut PhasedRound, member: Member)
         round.take_verdict(member, VotePhase::Third);
     } else {
         round.take_verdict(member, VotePhase::Second);
+    }
+}
+
+// The same; that no step applies is seen at once in most rounds that have their verdict.
+pub fn take_if_any<const THIRD: bool>(round: &mut PhasedRound, member: Member)
+    ensures { meaning_of round.new ≡ (acts_of THIRD).steps member.n member.own (meaning_of round.old) }
+{
+    if !round.is_through(member, THIRD) {
+        take_phases::<THIRD>(round, member);
     }
 }
 
@@ -67,12 +78,13 @@ impl<const THIRD: bool> Rule for Phased<THIRD> {
         row.enter_with(member, bit);
     }
 
+    #[inline(always)]
     fn hear(row: &mut PhasedRound, member: Member, vote: CastVote) -> Result<Heard, Reason> {
         row.hear_vote(vote)
     }
 
     fn take_steps(row: &mut PhasedRound, member: Member) {
-        take_phases::<THIRD>(row, member);
+        take_if_any::<THIRD>(row, member);
     }
 
     fn verdict(row: &PhasedRound) -> Option<BitSet> {

@@ -4,3 +4,4 @@ pub mod Roots
 pub mod Interpolation
 pub mod Turns
 pub mod Choosing
+pub mod Trying

@@ -1,5 +1,5 @@
 // The polynomial through chosen shares modulo 251, by Newton's numbers: one for each chosen share.
-ghost use Rattle.std.specs.Prelude.{◌≡◌, ℕ, ◌+◌, ◌-◌, ◌*◌, ◌%◌, ◌<◌, ◌≤◌, length};
+ghost use Rattle.std.specs.Prelude.{◌≡◌, ℕ, ◌+◌, ◌-◌, ◌*◌, ◌%◌, ◌<◌, ◌≤◌, true, length};
 ghost use Rattle.basis.specs.Counts.{has};
 ghost use Rattle.polynomials.specs.Polynomials.{at, inv, slope_to, nval, Newtons, Cancels, Interpolates, AtMostOne};
 
@@ -26,14 +26,16 @@ fn slope_by(high: u8, low: u8, by: u8) -> u8
     ((u32::from(high) + (251 - u32::from(low) % 251)) * u32::from(by) % 251) as u8
 }
 
-// The slopes from each of some low values to a high one, which stands right above them, in place of them.
-fn slopes(lower: &mut [u8], high: u8)
+// The slopes from the chosen ones of some low values to a high one, which stands right above them, in place of them.
+fn slopes(choice: ReplicaSet, lower: &mut [u8], high: u8)
     requires { length lower.old < 16 }
-    ensures { (j : ℕ) → j < length lower.old → at lower.new j ≡ slope_to high (at lower.old j) (length lower.old - j) % 251 }
+    ensures { (j : ℕ) → j < length lower.old → has choice j ≡ true → at lower.new j ≡ slope_to high (at lower.old j) (length lower.old - j) % 251 }
 {
     let i = lower.len();
     for (j, y) in lower.iter_mut().enumerate() {
-        *y = slope_by(high, *y, inverse(i - j));
+        if contains(choice, j as u8) {
+            *y = slope_by(high, *y, inverse(i - j));
+        }
     }
 }
 
@@ -48,7 +50,7 @@ pub fn interpolate(choice: ReplicaSet, ys: &mut [u8])
     for i in (0..ys.len()).rev() {
         if contains(choice, i as u8) {
             let high = ys[i];
-            slopes(&mut ys[..i], high);
+            slopes(choice, &mut ys[..i], high);
         }
     }
 }

@@ -9,7 +9,7 @@ use Rattle.messages.specs.Tags.{phase_tag, uses}
 use Rattle.messages.specs.Writing.{tag_of, slot_of, round_of, value_of}
 use Rattle.slots.specs.Places.{or_else}
 use Rattle.outcomes.specs.Holdings.{Setting, Holding}
-use Rattle.outcomes.specs.Saying.{first_of, first_share_in, first_under, first_share, first_if_used, first_vote, next_message}
+use Rattle.outcomes.specs.Saying.{first_of, first_share_in, first_under, first_share, first_if_used, lowest_vote, next_message}
 use Rattle.saying.proofs.Lowest.{IsLowest, Among, lowest_same, lowest_of_two, lowest_of_all}
 use Rattle.saying.proofs.Positions.{by_tag}
 use Rattle.saying.proofs.SaidVotes.{VoteIn, vote_at, under_lowest}
@@ -44,7 +44,7 @@ module _ {R C : Type 0} (g : Setting R C) (n own from : ℕ) (h : Holding R C) w
   Any m = Sheets m ⊎ (AnyVote m ⊎ AnyShare m)
 
   module _ (most : n ≤ 16) (shares : LawfulShares g own h) where
-    vote_lowest : IsLowest AnyVote (first_vote g n own h from)
+    vote_lowest : IsLowest AnyVote (lowest_vote g n own h from)
     vote_lowest = lowest_of_all (λ i. first_if_used g n own h from (32 + i)) (λ i. VoteUnder (32 + i)) 16
         (λ i l. lowest_if (Among n (λ k. Among 16 (VoteIn own h from (32 + i) k))) (uses g.rule.tags (32 + i)) (first_under own h from n (32 + i)) (under_lowest own h from n (32 + i) (omega arith)))
         (λ i j l u m m' p q.
@@ -75,9 +75,9 @@ module _ {R C : Type 0} (g : Setting R C) (n own from : ℕ) (h : Holding R C) w
     share_tag_of m s = let p = s.1 in (share_at g.coins own from h.coin shares p.0 p.2.0 (let z = p.1 in omega arith) p.2.1 m p.2.2).tag
 
     pub any_lowest : IsLowest Any (next_message g n own h from)
-    any_lowest = lowest_of_two Sheets (λ m. AnyVote m ⊎ AnyShare m) (next_said g.rows n own h.slots.places from) (or_else (first_vote g n own h from) (first_share g.coins own h.coin from n))
+    any_lowest = lowest_of_two Sheets (λ m. AnyVote m ⊎ AnyShare m) (next_said g.rows n own h.slots.places from) (or_else (lowest_vote g n own h from) (first_share g.coins own h.coin from n))
         (sheet_lowest g.rows n own from h.slots.places most)
-        (lowest_of_two AnyVote AnyShare (first_vote g n own h from) (first_share g.coins own h.coin from n) vote_lowest any_share_lowest
+        (lowest_of_two AnyVote AnyShare (lowest_vote g n own h from) (first_share g.coins own h.coin from n) vote_lowest any_share_lowest
         (λ m m' p q. let a = vote_under m p in let b = share_tag_of m' q in by_tag m m' a.0 a.1 a.2 (let z = a.4 in omega arith)))
         (λ m m' p q.
         let a = sheet_under m p in

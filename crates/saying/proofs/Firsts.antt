@@ -1,4 +1,5 @@
 -- The first answer that is there, number by number. Assumes nothing.
+use Prim.Native.Nat.{max}
 use Rattle.std.proofs.Common.{◌≡◌, ℕ, zero, suc, ◌+◌, ◌<◌, Some, None, Option, refl, sym, ap, ◌∙◌, ap₂, ⊎_elim, add-one, arith}
 use Rattle.std.proofs.lemmas.Bool.{cases_eq}
 use Rattle.slots.specs.Places.{or_else}
@@ -24,3 +25,11 @@ module _ {X : Type 0} (f : ℕ → Option X) where
   unfolding first_of
   none_all zero none = refl
   none_all (suc i) none = ap₂ or_else (none_all i (λ j l. none j (omega arith))) (none i (omega arith))
+
+  -- none at 0 and none of the numbers below i: so none below the larger of i and 1
+  pub none_from_one : (i : ℕ) → f 0 ≡ None → ((j : ℕ) → j < i → f j ≡ None) → first_of f (max i 1) ≡ None
+  none_from_one i here none = none_all (max i 1) (λ j l. below j l)
+    where
+      below : (j : ℕ) → j < max i 1 → f j ≡ None
+      below zero l = here
+      below (suc j) l = none (suc j) (omega arith)

@@ -7,6 +7,9 @@ use broadcast::say::{OF_SLOT, OF_TAG};
 // How many positions a round has.
 const OF_ROUND: u32 = 0x100;
 
+// The lowest position above those of all sheet messages.
+pub const AFTER_SHEETS: u32 = 0x13_0000;
+
 // The lowest tag of a vote.
 pub const FIRST_TAG: u8 = 0x20;
 

@@ -5,10 +5,11 @@ ghost use Rattle.basis.specs.Refusals.{told};
 ghost use Rattle.messages.specs.Writing.{on_sheet};
 ghost use Rattle.outcomes.specs.Holdings.{Life, Running};
 ghost use Rattle.outcomes.specs.Tables.{setting, holding};
-ghost use Rattle.outcomes.specs.Saying.{first_of, first_if_used, first_vote, next_message, say_answer, say_output};
+ghost use Rattle.broadcast.specs.Saying.{next_said};
+ghost use Rattle.outcomes.specs.Saying.{first_of, first_if_used, lowest_vote, next_message, say_answer, say_output};
 ghost use Rattle.saying.specs.SaysTheFirst.{SaysTheFirst};
 
-use crate::below::{FIRST_TAG, TAGS, tags_below};
+use crate::below::{AFTER_SHEETS, FIRST_TAG, TAGS, tags_below};
 use crate::view::SayingView;
 use basis::member::Member;
 use basis::refusal::{Reason, Refusal};
@@ -33,8 +34,8 @@ impl<S: Sheet, R: Rule, C: Coin> SayingView<'_, S, R, C> {
     }
 
     // The first vote of all, from the tag on that does not lie wholly below the position.
-    fn first_vote(&self, from: u32) -> Option<Message<S>>
-        ensures { option_map (on_sheet S.Sheet.bytes) result ≡ first_vote (setting S.Sheet.rows S.Sheet.LEN S.Sheet.KIND S.Sheet.lawful R.Rule.acts C.Coin.acts) self.now.member.n self.now.member.own (holding R.Rule.meaning Running self.now.records.now self.now.rounds.now self.now.places.now self.now.coin.now) from }
+    fn lowest_vote(&self, from: u32) -> Option<Message<S>>
+        ensures { option_map (on_sheet S.Sheet.bytes) result ≡ lowest_vote (setting S.Sheet.rows S.Sheet.LEN S.Sheet.KIND S.Sheet.lawful R.Rule.acts C.Coin.acts) self.now.member.n self.now.member.own (holding R.Rule.meaning Running self.now.records.now self.now.rounds.now self.now.places.now self.now.coin.now) from }
     {
         for offset in tags_below(from)..TAGS {
             if let Some(vote) = self.first_if_used(from, FIRST_TAG + offset) {
@@ -44,17 +45,27 @@ impl<S: Sheet, R: Rule, C: Coin> SayingView<'_, S, R, C> {
         None
     }
 
-    // The first message of all: of sheets, votes by their tags, shares.
-    fn next_message(&self, from: u32) -> Option<Message<S>>
-        ensures { option_map (on_sheet S.Sheet.bytes) result ≡ next_message (setting S.Sheet.rows S.Sheet.LEN S.Sheet.KIND S.Sheet.lawful R.Rule.acts C.Coin.acts) self.now.member.n self.now.member.own (holding R.Rule.meaning Running self.now.records.now self.now.rounds.now self.now.places.now self.now.coin.now) from }
+    // The first sheet message, where the position does not lie behind all of them.
+    fn first_sheet(&self, from: u32) -> Option<Message<S>>
+        ensures { option_map (on_sheet S.Sheet.bytes) result ≡ next_said S.Sheet.rows self.now.member.n self.now.member.own self.now.places.now from }
     {
+        if from >= AFTER_SHEETS {
+            return None;
+        }
         let recorded = Recorded::<S> {
             member: self.member,
             places: self.places,
         };
-        let vote = || self.first_vote(from);
+        recorded.next_message(from)
+    }
+
+    // The first message of all: of sheets, votes by their tags, shares.
+    fn next_message(&self, from: u32) -> Option<Message<S>>
+        ensures { option_map (on_sheet S.Sheet.bytes) result ≡ next_message (setting S.Sheet.rows S.Sheet.LEN S.Sheet.KIND S.Sheet.lawful R.Rule.acts C.Coin.acts) self.now.member.n self.now.member.own (holding R.Rule.meaning Running self.now.records.now self.now.rounds.now self.now.places.now self.now.coin.now) from }
+    {
+        let vote = || self.lowest_vote(from);
         let share = || self.first_share(from);
-        recorded.next_message(from).or_else(vote).or_else(share)
+        self.first_sheet(from).or_else(vote).or_else(share)
     }
 }
 

@@ -1,4 +1,8 @@
 // What the program says of each line, and at the end.
+ghost use Rattle.std.specs.Prelude.{◌≡◌, IfOk};
+ghost use Rattle.sends.specs.Entries.{entry_of};
+ghost use Rattle.sends.specs.Outcomes.{comes_to, counted};
+
 use crate::entry::{Entry, parse};
 use crate::trip::{HALL, round_trip};
 use messages::write::TAKINGS_MESSAGE;
@@ -23,13 +27,14 @@ struct Tally {
 }
 
 impl Tally {
-    fn add(&mut self, outcome: Outcome) {
-        let count = match outcome {
-            Outcome::Sent => &mut self.sent,
-            Outcome::Refused => &mut self.refused,
-            Outcome::Unread => &mut self.unread,
-        };
-        *count = count.saturating_add(1);
+    fn add(&mut self, outcome: Outcome)
+        ensures { self.new ≡ counted self.old outcome }
+    {
+        match outcome {
+            Outcome::Sent => self.sent = self.sent.saturating_add(1),
+            Outcome::Refused => self.refused = self.refused.saturating_add(1),
+            Outcome::Unread => self.unread = self.unread.saturating_add(1),
+        }
     }
 }
 
@@ -41,7 +46,10 @@ fn say_sent(rt: &HostRuntime, entry: Entry, packet: &[u8]) -> anyhow::Result<()>
     Ok(())
 }
 
-fn say_line(rt: &HostRuntime, line: &[u8]) -> anyhow::Result<Outcome> {
+// Says what a line comes to.
+fn say_line(rt: &HostRuntime, line: &[u8]) -> anyhow::Result<Outcome>
+    ensures { IfOk result (λ outcome. outcome ≡ comes_to (entry_of line.now)) }
+{
     let Some(entry) = parse(line) else {
         println!(rt;
             "  not understood: till below 256, cents, receipts below 2^32, with single spaces between them"

@@ -15,6 +15,7 @@ use sheets::sheet::Sheet;
 use slots::steps::settle_slot;
 
 // Takes the steps of a slot's sheets.
+#[inline(always)]
 pub fn settle_sheets<S: Sheet>(
     records: &mut [OpeningRecord],
     places: &mut [S::Row],
@@ -37,6 +38,7 @@ pub fn settle_sheets<S: Sheet>(
 }
 
 // Takes the steps of a slot's ballot.
+#[inline(always)]
 pub fn settle_votes<R: Rule, C: Coin>(
     row: &mut OpeningRecord,
     rounds: &mut [R::Record],

@@ -54,6 +54,7 @@ pub fn settle_all<S: Sheet, R: Rule, C: Coin>(
 
 // Takes the steps of a slot: those of its sheets; then the replica proposes, with the steps of all slots, or else
 // those of its ballot are taken. That comes to the same as taking the first listed step that applies, until none does.
+#[inline(always)]
 pub fn take_steps<S: Sheet, R: Rule, C: Coin>(
     records: &mut [OpeningRecord],
     rounds: &mut [R::Record],

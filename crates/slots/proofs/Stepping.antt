@@ -5,7 +5,7 @@ use Rattle.std.proofs.lemmas.List.{set-get_or}
 use Rattle.messages.specs.declared.message.Phase.{Phase}
 use Rattle.messages.specs.declared.message.Phase.TheVariants.{Send, Echo, Ready}
 use Rattle.sheets.specs.Holds.{Rows}
-use Rattle.slots.specs.Places.{all_places, place, or_else, recorded, leader, to_ready}
+use Rattle.slots.specs.Places.{all_places, place, or_else, recorded, lowest_backed, to_ready}
 use Rattle.slots.specs.Steps.{Slots, cleared, unless, marked_slot, marked, noted, said_due, echo_due, ready_due, delivery_due, delivered_by, next, go_on, settled, SettledIn}
 use Rattle.slots.specs.declared.slot.Slot.{Slot}
 use Rattle.basis.specs.Halls.{quorum}
@@ -55,7 +55,7 @@ module _ {R : Type 0} (rows : Rows R) (n own k : ℕ) where
   third_by fuel rs ps (Some j) l e r d =
       let t' = both (marked k rs (Some j)) ps in
       let gone : None ≡ delivery_due rows n own k t' =
-      ap (λ (s : Slot). unless s.delivered (leader rows n ps Ready k (quorum n) n)) (sym (get_or-set_same rs k (record { delivered = Some j }) cleared l)) in
+      ap (λ (s : Slot). unless s.delivered (lowest_backed rows n ps Ready k (quorum n) n)) (sym (get_or-set_same rs k (record { delivered = Some j }) cleared l)) in
       still t' (next_is t' None None None e r gone) fuel ∙ taken (both rs ps) t' fuel (next_is (both rs ps) None None (Some j) e r d)
 
   second_by : (fuel : ℕ) (rs : List Slot) (ps : List R) (r : Option (List ℕ)) → k < length rs → k < n → own < n → all_places n ≤ length ps → None ≡ echo_due rows n own k (both rs ps) → r ≡ ready_due rows n own k (both rs ps) → Held r
@@ -101,7 +101,7 @@ module _ {R : Type 0} (rows : Rows R) (n own k : ℕ) where
       → (t t' : Slot) (ps p1 p2 : List R) (e r : Option S) → all_places n ≤ length ps
       → option_map bytes e ≡ recorded rows n ps Send k own → p1 ≡ said_due rows n own k Echo ps (unless (recorded rows n ps Echo k own) (option_map bytes e))
       → option_map bytes r ≡ unless (recorded rows n p1 Ready k own) (to_ready rows n p1 k) → p2 ≡ said_due rows n own k Ready p1 (unless (recorded rows n p1 Ready k own) (option_map bytes r))
-      → t' ≡ marked_slot t (unless t.delivered (leader rows n p2 Ready k (quorum n) n))
+      → t' ≡ marked_slot t (unless t.delivered (lowest_backed rows n p2 Ready k (quorum n) n))
       → SettledIn rows n own k t t' ps p2
   settles bytes law lk lo t t' ps p1 p2 e r fit qe q1 qr q2 q3 rs l at =
       let due = unless (recorded rows n ps Echo k own) (option_map bytes e) in
@@ -109,8 +109,8 @@ module _ {R : Type 0} (rows : Rows R) (n own k : ℕ) where
       let due' = unless (recorded rows n p1' Ready k own) (option_map bytes r) in
       let said : p2 ≡ said_due rows n own k Ready p1' due' = q2 ∙ ap (λ p. said_due rows n own k Ready p (unless (recorded rows n p Ready k own) (option_map bytes r))) q1 in
       let put : slice_set rs k t' ≡ marked k rs (delivery_due rows n own k (both rs p2)) =
-      ap (slice_set rs k) q3 ∙ marked_in rs t (unless t.delivered (leader rows n p2 Ready k (quorum n) n)) at
-      ∙ ap (λ (s : Slot). marked k rs (unless s.delivered (leader rows n p2 Ready k (quorum n) n))) (sym at) in
+      ap (slice_set rs k) q3 ∙ marked_in rs t (unless t.delivered (lowest_backed rows n p2 Ready k (quorum n) n)) at
+      ∙ ap (λ (s : Slot). marked k rs (unless s.delivered (lowest_backed rows n p2 Ready k (quorum n) n))) (sym at) in
       ap (λ x. both x p2) put ∙ ap (done rs) said
       ∙ all_steps 0 rs ps due due' l lk lo fit (ap (unless (recorded rows n ps Echo k own)) qe) (held_of bytes law (recorded rows n ps Echo k own) e)
       (ap (unless (recorded rows n p1' Ready k own)) (qr ∙ ap (λ p. unless (recorded rows n p Ready k own) (to_ready rows n p k)) q1) ∙ unless_twice (recorded rows n p1' Ready k own) (to_ready rows n p1' k)) (held_of bytes law (recorded rows n p1' Ready k own) r)

@@ -43,9 +43,9 @@ module _ {R : Type 0} (rows : Rows R) (n : ℕ) (ps : List R) where
   backed ph k least j = reaches ph k least (recorded ph k j)
 
   -- the lowest sender below m whose sheet so many have
-  unfoldable pub leader : Phase → ℕ → ℕ → ℕ → Option ℕ
-  leader ph k least zero = None
-  leader ph k least (suc m) = or_else (leader ph k least m) (cond (backed ph k least m) (Some m) None)
+  unfoldable pub lowest_backed : Phase → ℕ → ℕ → ℕ → Option ℕ
+  lowest_backed ph k least zero = None
+  lowest_backed ph k least (suc m) = or_else (lowest_backed ph k least m) (cond (backed ph k least m) (Some m) None)
 
   -- the sheet of a sender, if there is a sender
   abbrev pub sheet_of : Phase → ℕ → Option ℕ → Option (List ℕ)
@@ -54,4 +54,4 @@ module _ {R : Type 0} (rows : Rows R) (n : ℕ) (ps : List R) where
 
   -- the sheet that has 2f + 1 echoes, or else f + 1 readies; of several that of the lowest sender
   abbrev pub to_ready : ℕ → Option (List ℕ)
-  to_ready k = or_else (sheet_of Echo k (leader Echo k (quorum n) n)) (sheet_of Ready k (leader Ready k (beyond_faults n) n))
+  to_ready k = or_else (sheet_of Echo k (lowest_backed Echo k (quorum n) n)) (sheet_of Ready k (lowest_backed Ready k (beyond_faults n) n))

@@ -6,7 +6,7 @@ use Rattle.messages.specs.declared.message.Phase.{Phase}
 use Rattle.messages.specs.declared.message.Phase.TheVariants.{Send, Echo, Ready}
 use Rattle.slots.specs.declared.slot.Slot.{Slot}
 use Rattle.sheets.specs.Holds.{Rows}
-use Rattle.slots.specs.Places.{place, or_else, recorded, leader, sheet_of, to_ready}
+use Rattle.slots.specs.Places.{place, or_else, recorded, lowest_backed, sheet_of, to_ready}
 
 -- a replica's tables, as far as sheets go: a record for each slot, and the sheet places
 pub record Slots (R : Type 0) : Type 0 where
@@ -55,7 +55,7 @@ module _ {R : Type 0} (rows : Rows R) (n own k : ℕ) where
 
   -- the lowest sender whose sheet 2f + 1 are ready of, unless the slot is delivered
   abbrev pub delivery_due : Slots R → Option ℕ
-  delivery_due t = unless (slice_index_or t.records k cleared).delivered (leader rows n t.places Ready k (quorum n) n)
+  delivery_due t = unless (slice_index_or t.records k cleared).delivered (lowest_backed rows n t.places Ready k (quorum n) n)
 
   abbrev pub delivered_by : Slots R → ℕ → Slots R
   delivered_by t j = record { records = slice_set t.records k (record { delivered = Some j }); places = t.places }

@@ -2,7 +2,7 @@
 ghost use Rattle.std.specs.Prelude.{◌≡◌, ℕ, ◌+◌, ◌*◌, ◌<◌, ◌≤◌, true, length, IfSome};
 ghost use Rattle.std.specs.Option.{option_map};
 ghost use Rattle.sheets.specs.Holds.{holds};
-ghost use Rattle.slots.specs.Places.{place, all_places, recorded, tally, backed, leader, sheet_of};
+ghost use Rattle.slots.specs.Places.{place, all_places, recorded, tally, backed, lowest_backed, sheet_of};
 
 use messages::message::Phase;
 use sheets::rows::sheet_at;
@@ -82,7 +82,7 @@ impl<S: Sheet> SlotSheets<'_, S> {
 
     // The lowest sender whose sheet so many have.
     pub fn leading_sender(&self, phase: Phase, least: u32) -> Option<u8>
-        ensures value { result ≡ leader S.Sheet.rows self.now.n self.now.places.now phase self.now.slot least self.now.n }
+        ensures value { result ≡ lowest_backed S.Sheet.rows self.now.n self.now.places.now phase self.now.slot least self.now.n }
         ensures within { IfSome result (λ j. (j < self.now.n) × (backed S.Sheet.rows self.now.n self.now.places.now phase self.now.slot least j ≡ true)) }
     {
         (0..self.n).find(|sender| self.is_backed(phase, least, *sender))
@@ -90,7 +90,7 @@ impl<S: Sheet> SlotSheets<'_, S> {
 
     // That sender's sheet.
     pub(crate) fn leading_sheet(&self, phase: Phase, least: u32) -> Option<S>
-        ensures { option_map S.Sheet.bytes result ≡ sheet_of S.Sheet.rows self.now.n self.now.places.now phase self.now.slot (leader S.Sheet.rows self.now.n self.now.places.now phase self.now.slot least self.now.n) }
+        ensures { option_map S.Sheet.bytes result ≡ sheet_of S.Sheet.rows self.now.n self.now.places.now phase self.now.slot (lowest_backed S.Sheet.rows self.now.n self.now.places.now phase self.now.slot least self.now.n) }
     {
         let sender = self.leading_sender(phase, least)?;
         self.sheet_from(phase, sender)

@@ -3,7 +3,7 @@ ghost use Rattle.std.specs.Prelude.{◌≡◌, ◌<◌, ◌≤◌, length};
 ghost use Rattle.std.specs.Option.{option_map};
 ghost use Rattle.basis.specs.Halls.{quorum};
 ghost use Rattle.messages.specs.declared.message.Phase.TheVariants.{Ready};
-ghost use Rattle.slots.specs.Places.{all_places, recorded, leader, to_ready};
+ghost use Rattle.slots.specs.Places.{all_places, recorded, lowest_backed, to_ready};
 ghost use Rattle.slots.specs.Steps.{unless, said_due, marked_slot, settled, SettledIn};
 
 use crate::places::{SlotSheets, place_of, sheet_from};
@@ -54,7 +54,7 @@ fn ready_to_say<S: Sheet>(places: &[S::Row], n: u8, own: u8, slot: u8) -> Option
 
 // Marks the slot as delivered, if 2f + 1 are ready of one sheet and it is not delivered yet.
 fn deliver<S: Sheet>(row: &mut Slot, sheets: &SlotSheets<'_, S>)
-    ensures { row.new ≡ marked_slot row.old (unless row.old.delivered (leader S.Sheet.rows sheets.now.n sheets.now.places.now Ready sheets.now.slot (quorum sheets.now.n) sheets.now.n)) }
+    ensures { row.new ≡ marked_slot row.old (unless row.old.delivered (lowest_backed S.Sheet.rows sheets.now.n sheets.now.places.now Ready sheets.now.slot (quorum sheets.now.n) sheets.now.n)) }
 {
     if row.delivered.is_some() {
         return;

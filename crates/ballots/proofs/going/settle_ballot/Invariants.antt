@@ -7,4 +7,4 @@ use Rattle.ballots.proofs.going.settle_ballot.Given as goal
 abbrev pub invariant-loop-later : goal.invariant-loop-later
 invariant-loop-later g l =
     later_settled g.R.Rule.acts g.C.Coin.acts l.member.n l.member.own l.slot (15 - l.later) l.later (record { ballot = ballot_meaning l.ballot; rounds = map g.R.Rule.meaning l.rounds; coin = l.coin })
-    ≡ later_settled g.R.Rule.acts g.C.Coin.acts l.member.n l.member.own l.slot 15 0 (record { ballot = ballot_meaning l.initial.ballot; rounds = map g.R.Rule.meaning l.initial.rounds; coin = l.initial.coin })
+    ≡ later_settled g.R.Rule.acts g.C.Coin.acts l.member.n l.member.own l.slot (15 - l.passed) l.passed (record { ballot = ballot_meaning l.initial.ballot; rounds = map g.R.Rule.meaning l.initial.rounds; coin = l.initial.coin })

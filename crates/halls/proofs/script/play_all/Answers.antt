@@ -1,7 +1,7 @@
 -- Line after line is printed, to the last or to the first fault.
-use Rattle.std.proofs.Common.{◌≡◌, ◌++◌, Bool, List, ℕ, sym, ap, ◌∙◌, subst, string_bytes, arith}
+use Rattle.std.proofs.Common.{◌++◌, Bool, List, ℕ, sym, ap, ◌∙◌, subst, string_bytes, arith}
 use Rattle.text.specs.Lines.{lines}
-use Rattle.halls.specs.Scripts.{Added, scene_in, printed_from, script_printed}
+use Rattle.halls.specs.Scripts.{Added, scene_in, printed_from}
 use Rattle.halls.proofs.Whole.{goes_behind, ends_there, none_left}
 use Rattle.halls.proofs.script.play_all.Goals as goal
 

@@ -1,6 +1,5 @@
 -- A line that is played adds what it prints.
-use Rattle.std.proofs.Common.{Global, List, ℕ, ◌++◌, Option, sym, ap, ◌∙◌, string_bytes, is_some}
-use Rattle.halls.specs.Scripts.{Printed, shown_of}
+use Rattle.std.proofs.Common.{Global, List, ℕ, ◌++◌, ap, ◌∙◌, string_bytes}
 use Rattle.halls.proofs.Whole.{printed_is, fault_added}
 use Rattle.halls.proofs.script.push_line.Goals as goal
 

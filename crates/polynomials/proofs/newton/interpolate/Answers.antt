@@ -1,5 +1,5 @@
 -- A turn of Newton's rule, at a chosen point and at another.
-use Rattle.std.proofs.Common.{◌≡◌, ℕ, suc, ◌+◌, ◌-◌, ◌%◌, ◌<◌, ◌≤◌, ◌++◌, length, take, drop, sym, refl, ap, ap₂, ◌∙◌, arith}
+use Rattle.std.proofs.Common.{◌≡◌, ℕ, suc, ◌+◌, ◌-◌, ◌%◌, ◌<◌, ◌≤◌, true, ◌++◌, length, take, drop, sym, refl, ap, ap₂, ◌∙◌, arith}
 use Rattle.std.proofs.lemmas.List.{length-take-le, get_or-take, get_or-drop, get_or_append_left, get_or-append_right}
 use Rattle.basis.specs.Counts.{has}
 use Rattle.polynomials.specs.Polynomials.{slope_to, slope, through, at, nval}
@@ -15,8 +15,8 @@ loop-i-preserved-then-contains c d z e h =
     let i : suc k ≡ c.loop-i.i = omega arith in
     let front : length (take k c.loop-i.ys) ≡ k = length-take-le k c.loop-i.ys (omega arith) in
     let long : length c.slopes.new.lower ≡ k = omega arith in
-    let low : (j : ℕ) → j < k → at (c.slopes.new.lower ++ drop k c.loop-i.ys) j ≡ slope (at c.loop-i.ys) k j % 251 =
-    λ j l. get_or_append_left c.slopes.new.lower (drop k c.loop-i.ys) 0 j (omega arith) ∙ c.slopes.ensures j (omega arith)
+    let low : (j : ℕ) → j < k → has c.args.choice j ≡ true → at (c.slopes.new.lower ++ drop k c.loop-i.ys) j ≡ slope (at c.loop-i.ys) k j % 251 =
+    λ j l t. get_or_append_left c.slopes.new.lower (drop k c.loop-i.ys) 0 j (omega arith) ∙ c.slopes.ensures j (omega arith) t
     ∙ ap₂ (λ (y d : ℕ). slope_to (at c.loop-i.ys k) y (d - j) % 251) (get_or-take k c.loop-i.ys j 0 l) front in
     let high : (j : ℕ) → k ≤ j → at (c.slopes.new.lower ++ drop k c.loop-i.ys) j ≡ at c.loop-i.ys j =
     λ j l. let n : k + (j - k) ≡ j = omega arith in get_or-append_right c.slopes.new.lower (drop k c.loop-i.ys) k j 0 long l ∙ get_or-drop k c.loop-i.ys (j - k) 0 ∙ ap (at c.loop-i.ys) n in

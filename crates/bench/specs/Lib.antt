@@ -1,0 +1,2 @@
+-- The definitions that the bench's contracts cite.
+pub mod Judging
