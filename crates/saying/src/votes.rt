@@ -72,7 +72,8 @@ impl<S: Sheet, R: Rule, C: Coin> SayingView<'_, S, R, C> {
             >= from)
     }
 
-    // The first vote of a round.
+    // The first vote of a round. Inlined, as it is asked for in two places.
+    #[inline(always)]
     fn first_value(&self, from: u32, tag: u8, slot: u8, round: u8) -> Option<Message<S>>
         requires slot { slot < self.now.member.n }
         requires round { round < 16 }
