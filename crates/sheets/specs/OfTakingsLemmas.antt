@@ -1,5 +1,5 @@
 -- Takings and their bytes: the same bytes are the same sheet, and a row gives back what it was made of. Assumes nothing.
-use Rattle.std.specs.Prelude.{◌≡◌, ℕ, ◌^◌, ◌<◌, Bool, true, false, cond, T, List, ◌++◌, length, take, drop, ℤ, pos, negsuc, ◌≤ℤ◌, Some, None, FitsSigned, ◌==◌, int_le, nat_eq, refl}
+use Rattle.std.specs.Prelude.{◌≡◌, ℕ, ◌^◌, ◌<◌, Bool, true, false, cond, T, List, ◌++◌, length, take, drop, ℤ, pos, negsuc, ◌≤ℤ◌, Some, None, Ok, FitsSigned, ◌==◌, int_le, nat_eq, refl}
 use Rattle.std.proofs.Common.{sym, ap, ap₂, subst, ◌∙◌, arith, div-one, eq-eqb, eqb-true, length-take, length-drop, take-append-drop, of_z, to_z}
 use Rattle.std.proofs.Math.Bridge.{le_prop}
 use borrow.Rule.Slice.PartMut.{put_mid, post_of}
@@ -10,10 +10,11 @@ use Rattle.std.proofs.lemmas.List.{drop-drop}
 use Rattle.std.proofs.lemmas.Int.{to_z-of_z, of_z-to_z, ints}
 use Rattle.std.proofs.lemmas.Bool.{cond-true, and_parts}
 use Rattle.basis.specs.Bytes.{be, value, Octets}
+use Rattle.basis.specs.Refusals.{refused}
 use Rattle.basis.proofs.Digits.{value_lt, value_be_lt, be_value, be_inj, octets_be, octets_take, octets_drop, octets_append}
 use Rattle.sheets.specs.Holds.{holds, if_lawful}
 use Rattle.sheets.specs.Tests.{no_true}
-use Rattle.sheets.specs.OfTakings.{in_range_lem, amount_bytes, takings_bytes, takings_lawful, takings_held, takings_row}
+use Rattle.sheets.specs.OfTakings.{in_range_lem, amount_bytes, takings_bytes, takings_lawful, takings_held, takings_row, takings_made, fields}
 use Rattle.sheets.specs.declared.kinds.Takings.{Takings}
 use Rattle.sheets.specs.declared.kinds.TakingsRow.{TakingsRow}
 
@@ -129,3 +130,11 @@ not_held x r f h = go (in_range_lem r.cents) refl
         let e = (bytes_eq-Decides (amount_bytes r.cents r.receipts) (takings_bytes x)).0 t in
         let q = amount_alone r.cents x.cents r.receipts x.receipts i (in_range_of x) f x.fits e in
         h (sym q.0) (sym q.1)))
+
+-- takings that were made have the numbers that were asked
+pub made_facts : (z : ℤ) (n : ℕ) (x : Takings) → Ok (fields x) ≡ takings_made z n → (in_range_lem z ≡ true) × (x.cents ≡ z) × (x.receipts ≡ n)
+made_facts z n x e = go (in_range_lem z) refl e
+  where
+    go : (b : Bool) → in_range_lem z ≡ b → Ok (fields x) ≡ cond b (Ok (record { cents = z; receipts = n })) (refused 1 0) → (in_range_lem z ≡ true) × (x.cents ≡ z) × (x.receipts ≡ n)
+    go true i e = let q : fields x ≡ record { cents = z; receipts = n } = cc in (i, ap (λ r. r.cents) q, ap (λ r. r.receipts) q)
+    go false i e = absurd (let z : ◌≡◌ {A = ℕ} 0 1 = cc in omega arith)
