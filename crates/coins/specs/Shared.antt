@@ -9,7 +9,7 @@ use Rattle.polynomials.specs.Shares.{Exact}
 use Rattle.coins.specs.declared.share_coin.ShareCoin.{ShareCoin}
 use Rattle.coins.specs.declared.toss.Toss.{Toss}
 use Rattle.coins.specs.Coins.{Acts, Tossed, NewCoin}
-use Rattle.coins.specs.Tosses.{blank, taken_from, toss_taken, SoundToss}
+use Rattle.coins.specs.Tosses.{blank, taken_from, toss_taken, SoundToss, LawfulToss}
 
 -- where the toss of a ballot and a round stands: ballot by ballot, 15 rounds each
 abbrev pub place : ℕ → ℕ → ℕ
@@ -18,14 +18,23 @@ place k r = k * 15 + (r - 1)
 abbrev pub toss_at : ShareCoin → ℕ → ℕ → Toss
 toss_at c k r = slice_index_or c.tosses (place k r) blank
 
--- what holds of every share coin that the calls make
+-- a share coin with a sound toss for each ballot and round
 pub record Sound (c : ShareCoin) : Type 0 where
   pub all : length c.tosses ≡ 240
   pub each : (i : ℕ) → i < 240 → SoundToss c.member.n c.member.own (slice_index_or c.tosses i blank)
 
+-- every share that is taken is lawful
+abbrev pub TakenLawful : ShareCoin → Type 0
+TakenLawful c = (i : ℕ) → i < 240 → LawfulToss (slice_index_or c.tosses i blank)
+
+-- what holds of every share coin that the calls make
+pub record SoundAndLawful (c : ShareCoin) : Type 0 where
+  pub sound : Sound c
+  pub lawful : TakenLawful c
+
 abbrev pub share_acts : Acts ShareCoin
 share_acts = record {
-  sound = Sound;
+  sound = SoundAndLawful;
   shown = λ c k r. (toss_at c k r).shown;
   uses = true;
   own = λ c k r. Some (toss_at c k r).own;
@@ -48,7 +57,7 @@ held_share c k r j = cond (j == c.member.own) (toss_at c k r).own (unwrap_or (sh
 abbrev pub ShowsExactly : ShareCoin → ℕ → ℕ → Option Bool → Type 0
 ShowsExactly c k r shown = Exact c.member.n (holds c k r) (held_share c k r) shown
 
--- Every coin that the calls make of a new one shows exactly that, for each ballot and round.
+-- Every sound coin, and so every one that the calls make of a new one, shows exactly that, for each ballot and round.
 abbrev pub ShownExactly : Type 0
 ShownExactly = (c : ShareCoin) (k r : ℕ) → Tossed k r → Sound c → ShowsExactly c k r (share_acts.shown c k r)
 

@@ -40,9 +40,12 @@ looked n own t = record { taken = t.taken; shares = t.shares; own = t.own; shown
 abbrev pub toss_taken : ℕ → ℕ → Toss → ℕ → ℕ → Toss
 toss_taken n own t j v = looked n own (recorded t j v)
 
--- what holds of every toss that the calls make: its shares are lawful, and it shows what the held ones show
+-- what holds of every toss that the calls make: its own share is lawful, and it shows what the held ones show
 pub record SoundToss (n own : ℕ) (t : Toss) : Type 0 where
   pub places : length t.shares ≡ 16
   pub own_to : t.own ≤ 250
-  pub taken_to : (j v : ℕ) → taken_from t j ≡ Some v → v ≤ 250
   pub right : t.shown ≡ toss_bit n own t
+
+-- what also holds where only lawful shares are handed in: those that are taken are at most 250
+abbrev pub LawfulToss : Toss → Type 0
+LawfulToss t = (j v : ℕ) → taken_from t j ≡ Some v → v ≤ 250

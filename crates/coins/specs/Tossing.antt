@@ -16,7 +16,7 @@ use Rattle.polynomials.specs.Polynomials.{at}
 use Rattle.polynomials.specs.Shares.{Hall, Exact}
 use Rattle.polynomials.proofs.Choosing.{bit_stays, exact_same, few_show_none, shown_exact}
 use Rattle.coins.specs.declared.toss.Toss.{Toss}
-use Rattle.coins.specs.Tosses.{toss_new, taken_from, held_of, shares_of, toss_bit, recorded, toss_taken, SoundToss}
+use Rattle.coins.specs.Tosses.{toss_new, taken_from, held_of, shares_of, toss_bit, recorded, toss_taken, SoundToss, LawfulToss}
 
 -- a replica's place in a hall of 3f + 1, f from 1 on: its number is below n
 pub record Seat (n own : ℕ) : Type 0 where
@@ -93,18 +93,13 @@ held_stay own t i v len lt new j h = (stays, shares (cases_eq j own))
         w
 
 -- taking a new share keeps a toss sound
-pub taken_sound : (n own : ℕ) (t : Toss) (i v : ℕ) → Seat n own → SoundToss n own t → i < 16 → v ≤ 250 → taken_from t i ≡ None → SoundToss n own (toss_taken n own t i v)
-taken_sound n own t i v s h low to new = record {
+pub taken_sound : (n own : ℕ) (t : Toss) (i v : ℕ) → Seat n own → SoundToss n own t → taken_from t i ≡ None → SoundToss n own (toss_taken n own t i v)
+taken_sound n own t i v s h new = record {
   places = length-set t.shares i v ∙ h.places;
   own_to = h.own_to;
-  taken_to = λ j w e. lawful (i == j) j w (sym (taken_after t i v j (omega (arith, h.places, low))) ∙ e);
   right = go t.shown refl;
 }
   where
-    lawful : (b : Bool) (j w : ℕ) → cond b (Some v) (taken_from t j) ≡ Some w → w ≤ 250
-    lawful true j w e = let f : v ≡ w = cc in omega (arith, f, to)
-    lawful false j w e = h.taken_to j w e
-
     absent : (b : Bool) → has t.taken i ≡ b → cond b (Some (at t.shares i)) None ≡ None → has t.taken i ≡ false
     absent false e k = e
     absent true e k = absurd (let z : ◌≡◌ {A = ℕ} 0 1 = cc in omega arith)
@@ -116,6 +111,14 @@ taken_sound n own t i v s h low to new = record {
         ∙ sym (bit_stays n (held_of own t) (held_of own (recorded t i v)) (shares_of own t) (shares_of own (recorded t i v)) b s.hall
         (held_stay own t i v h.places (omega (arith, s.below, s.hall.small)) (absent (has t.taken i) refl new)) (sym h.right ∙ e))
 
+-- and taking a lawful one keeps those that are taken lawful
+pub taken_lawful : (n own : ℕ) (t : Toss) (i v : ℕ) → i < length t.shares → v ≤ 250 → LawfulToss t → LawfulToss (toss_taken n own t i v)
+taken_lawful n own t i v low to h j w e = go (i == j) (sym (taken_after t i v j low) ∙ e)
+  where
+    go : (b : Bool) → cond b (Some v) (taken_from t j) ≡ Some w → w ≤ 250
+    go true f = let g : v ≡ w = cc in omega (arith, g, to)
+    go false f = h j w f
+
 -- one number equals i
 one_alike : (n i : ℕ) → count n (λ j. eqb j i) ≡ cond (nat_lt i n) 1 0
 unfolding count
@@ -125,12 +128,14 @@ one_alike (suc n) i = let h = one_alike n i in grind (arith, nat_tests)
 pub new_none : (share j : ℕ) → taken_from (toss_new share) j ≡ None
 new_none share j = cond-false (has 0 j) _ _ (has_none j)
 
+pub new_lawful : (share : ℕ) → LawfulToss (toss_new share)
+new_lawful share j v e = absurd (none-some v (sym (new_none share j) ∙ e))
+
 -- the own share alone shows nothing
 pub new_sound : (n own share : ℕ) → Seat n own → SoundToss n own (toss_new share)
 new_sound n own share s = record {
   places = refl;
   own_to = omega arith;
-  taken_to = λ j v e. absurd (none-some v (sym (new_none share j) ∙ e));
   right = sym (few_show_none n (held_of own (toss_new share)) (shares_of own (toss_new share)) s.hall few);
 }
   where

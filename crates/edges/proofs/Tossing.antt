@@ -103,7 +103,7 @@ shows t c held share h f g = one_shown 4 (has held) share _ _ four exact (shown_
     own = let e = h.own in cc
 
     here : Exact 4 (holds c 0 1) (held_share c 0 1) (toss_at c 0 1).shown
-    here = subst (λ (n : ℕ). Exact n (holds c 0 1) (held_share c 0 1) (toss_at c 0 1).shown) h.hall (shows_exactly c 0 1 first h.sound)
+    here = subst (λ (n : ℕ). Exact n (holds c 0 1) (held_share c 0 1) (toss_at c 0 1).shown) h.hall (shows_exactly c 0 1 first h.sound.sound)
 
     exact : Exact 4 (has held) share (toss_at c 0 1).shown
     exact = exact_below 4 (holds c 0 1) (has held) (held_share c 0 1) share

@@ -2,7 +2,7 @@
 use Rattle.std.specs.Prelude.{◌≡◌, ℕ, ◌<◌, cond, Some, None, Option, ◌==◌}
 use Rattle.coins.specs.declared.share.Share.{Share}
 use Rattle.coins.specs.declared.share_coin.ShareCoin.{ShareCoin}
-use Rattle.coins.specs.Shared.{share_acts, Sound}
+use Rattle.coins.specs.Shared.{share_acts, SoundAndLawful}
 
 -- a share of replica j for ballot 0 and round 1
 abbrev pub sent_share : ℕ → ℕ → Share
@@ -10,7 +10,7 @@ sent_share j v = record { ballot = 0; round = 1; sender = j; value = v }
 
 -- a coin of replica 0 of four whose own share is 3, and which has taken exactly these shares of the others
 pub record HasTaken (shares : ℕ → Option ℕ) (c : ShareCoin) : Type 0 where
-  pub sound : Sound c
+  pub sound : SoundAndLawful c
   pub hall : c.member.n ≡ 4
   pub number : c.member.own ≡ 0
   pub own : share_acts.own c 0 1 ≡ Some 3
