@@ -1,11 +1,11 @@
 -- A later round by its three steps, and the rounds one after another. Assumes nothing.
 use Rattle.std.proofs.Common.{◌≡◌, ℕ, suc, ◌+◌, ◌-◌, ◌<◌, ◌≤◌, Bool, false, eqb, List, get_or, sym, refl, ap, ◌∙◌, ap₂, add-one, arith}
 use Rattle.std.proofs.lemmas.Bool.{and_left, ne_eqb}
-use Rattle.rules.specs.Rounds.{Round, cleared}
+use Rattle.rules.specs.Rounds.{Round, cleared, bit_if_any}
 use Rattle.rules.specs.Laws.{Acts}
 use Rattle.coins.specs.Coins.{Acts as Coin-acts}
 use Rattle.ballots.specs.States.{Opened, BallotState, place}
-use Rattle.ballots.specs.Ballots.{next_coin, ruled_rounds, gone_on, opened_ballot, opened_rounds, round_stepped, round_settled, later_settled, ballot_settled}
+use Rattle.ballots.specs.Ballots.{next_coin, gone_ballot, gone_rounds, ruled_rounds, gone_on, opened_ballot, opened_rounds, round_stepped, round_settled, later_settled, ballot_settled}
 use Rattle.ballots.specs.Listed.{reproposed}
 use Rattle.ballots.proofs.Sweeps.{gone_still}
 
@@ -15,6 +15,17 @@ module _ {C : Type 0} (a : Acts) (b : Coin-acts C) (n own k : ℕ) where
   step_by r s ms v c em ev ec =
       ap₂ (λ (l : List Round) (d : C). record { ballot = s.ballot; rounds = l; coin = d }) em
       (ec ∙ ap (λ (y : ℕ). next_coin b own k r s.ballot.stage y s.coin) (ev ∙ ap (λ (l : List Round). (get_or l (place k r) cleared).verdict) em))
+
+  -- a whole round, by its parts
+  pub round_by : (r q : ℕ) (s : BallotState C) (ms ms' : List Round) (v x : ℕ) (c : C) (o : Opened) → q ≡ suc r →
+      ms ≡ ruled_rounds a n own k r s.ballot.stage s.rounds → v ≡ (get_or ms (place k r) cleared).verdict → c ≡ next_coin b own k r s.ballot.stage v s.coin →
+      x ≡ bit_if_any (b.shown c k q) → o ≡ gone_ballot q v x s.ballot → ms' ≡ gone_rounds a n own k q v x s.ballot ms →
+      record { ballot = o; rounds = ms'; coin = c } ≡ round_settled a b n own k r s
+  round_by r q s ms ms' v x c o eq em ev ec ex eo er =
+      let x-is = ex ∙ ap (λ (y : ℕ). bit_if_any (b.shown c k y)) eq in
+      let o-is = eo ∙ ap (λ (y : ℕ). gone_ballot y v x s.ballot) eq ∙ ap₂ (λ (y z : ℕ). gone_ballot (suc r) y z s.ballot) ev x-is in
+      let r-is = er ∙ ap (λ (y : ℕ). gone_rounds a n own k y v x s.ballot ms) eq ∙ ap₂ (λ (y z : ℕ). gone_rounds a n own k (suc r) y z s.ballot ms) ev x-is in
+      ap₂ (λ (p : Opened) (l : List Round). record { ballot = p; rounds = l; coin = c }) o-is r-is ∙ ap (λ (t : BallotState C). gone_on a b n own k (suc r) t) (step_by r s ms v c em ev ec)
 
   -- the ballot goes on from no other round than its own
   pub stay_by : (r q : ℕ) (s t : BallotState C) → q ≡ suc r → t ≡ round_stepped a b n own k r s → eqb t.ballot.stage q ≡ false → t ≡ round_settled a b n own k r s
