@@ -4,13 +4,13 @@ use lib.Bits.{bit_and, bit_or, or_lt, and_shr, and_mod, and_zero_l}
 use lib.Pow.{pow-lt, shl_lt, shl-shr, shr-shr}
 use borrow.Author.Tests.{lt-leb}
 use Rattle.std.specs.Option.{option_or}
-use Rattle.std.proofs.lemmas.Bool.{and_parts, and_from, or_left, eqb-true, eq-eqb, ne_eqb, or_cases, or_right, both_ways, cases_eq, cases_lt, cond-true, cond-false}
+use Rattle.std.proofs.lemmas.Bool.{and_parts, and_from, or_left, eqb-true, eq-eqb, ne_eqb, or_cases, or_right, both_ways, cases_eq, cases_lt, cond-true, cond-false, cond_both}
 use Rattle.std.proofs.Math.Bool.{or-false}
 use Rattle.basis.specs.Counts.{has, count}
 use Rattle.basis.specs.Halls.{largest, faults, quorum, beyond_faults}
 use Rattle.basis.proofs.Counts.{count_cong, count_same, count_more, count_yes, count_no, count_mono, quorums_meet, has_or, has_one, has_none, has_high}
 use Rattle.polynomials.specs.Polynomials.{ev, Same, nval, Newtons, MeetsAll}
-use Rattle.polynomials.specs.Shares.{Hall, meets, meets_by, low_bit, Enough, BitOf, Exact, OneValue, OneBit, of_size, is_choice, chosen, tried, first_of, half, nth_choice, shown_in, shown_of}
+use Rattle.polynomials.specs.Shares.{Hall, meets, meets_by, low_bit, Enough, BitOf, Exact, OneValue, OneBit, of_size, is_choice, chosen, bit_if_met, tried, first_of, half, nth_choice, shown_in, shown_of}
 use Rattle.polynomials.proofs.Roots.{at_most_one}
 use Rattle.polynomials.proofs.Interpolation.{interpolates}
 
@@ -339,12 +339,16 @@ module _ (n held : ℕ) (share d : ℕ → ℕ) (to m : ℕ) where
           (eq-eqb _ _ ((interpolates to (has m) share (omega arith)).meets_each j (below_of to m j mask t) t)))
       go false t = ap (λ (b : Bool). b || has held j && eqb (nval to (has m) d (j + 1) % 251) (share j % 251)) t ∙ ap (λ (x : ℕ). has held j && eqb x (share j % 251)) (h (j + 1))
 
-  pub turn_failed : (w : ℕ) → w ≡ to → to ≤ largest → m < 2 ^ to → is_choice n held m ≡ true → Newtons to (has m) share d → count n (met_at w) < quorum n → tried n held share to m ≡ None
-  turn_failed w e le mask c h l =
-      cond-true (is_choice n held m) _ _ c ∙ cond-false (leb (quorum n) (count n (meets (chosen to share m) (has held) share))) _ _ (lt-leb _ _ few)
+  pub turn_failed : (w : ℕ) → w ≡ to → Newtons w (has m) share d → count n (met_at w) < quorum n → tried n held share to m ≡ None
+  turn_failed w e h l =
+      cond_both (is_choice n held m) (bit_if_met n held share (chosen to share m)) None (λ (o : Option Bool). o ≡ None)
+      (λ _. cond-false (leb (quorum n) (count n (meets (chosen to share m) (has held) share))) _ _ (lt-leb _ _ few)) (λ _. refl)
     where
+      met : Newtons to (has m) share d → (j : ℕ) → meets (chosen to share m) (has held) share j ≡ true → met_at to j ≡ true
+      met h j t = or_right (has m j) _ (ap (λ (x : ℕ). has held j && eqb x (share j % 251)) (h (j + 1)) ∙ t)
+
       few : count n (meets (chosen to share m) (has held) share) < quorum n
-      few = subst (λ (x : ℕ). x < quorum n) (count_cong n _ _ (met_is le mask c h)) (subst (λ (x : ℕ). count n (met_at x) < quorum n) e l)
+      few = omega (arith, count_mono n (meets (chosen to share m) (has held) share) (met_at to) (met (subst (λ (x : ℕ). Newtons x (has m) share d) e h)), subst (λ (x : ℕ). count n (met_at x) < quorum n) e l)
 
   pub turn_found : (w j k : ℕ) → w ≡ to → to ≤ largest → m < 2 ^ to → is_choice n held m ≡ true → Newtons to (has m) share d → j < n → k ≡ count j (met_at w) → met_at w j ≡ true → k + 1 ≡ quorum n
       → tried n held share to m ≡ Some (eqb (nval w (has m) d 0 % 251 % 2) 1)
@@ -359,20 +363,28 @@ module _ (n held : ℕ) (share d : ℕ → ℕ) (to m : ℕ) where
       many : quorum n ≤ count n (meets (chosen to share m) (has held) share)
       many = subst (λ (x : ℕ). quorum n ≤ x) (count_cong n _ _ (met_is le mask c h)) (subst (λ (x : ℕ). quorum n ≤ count n (met_at x)) e so_far)
 
--- a share met, a share missed; and too few are left
+-- a share met, a share missed
 pub met_more : (g : ℕ → Bool) (j k : ℕ) → k ≡ count j g → g j ≡ true → k + 1 ≡ count (j + 1) g
 met_more g j k e h = omega (arith, count_yes j g h)
 
 pub met_no_more : (g : ℕ → Bool) (j k : ℕ) → k ≡ count j g → g j ≡ false → k ≡ count (j + 1) g
 met_no_more g j k e h = omega (arith, count_no j g h)
 
+-- f + 1 missed
+pub missed : (n : ℕ) (g : ℕ → Bool) (j k : ℕ) → Hall n → j < n → k ≡ count j g → g j ≡ false → k + faults n ≤ j → count n g < quorum n
+missed n g j k hall l e h far =
+    let s : (j + 1) + (n - (j + 1)) ≡ n = omega arith in
+    let c : count n g ≤ count (j + 1) g + (n - (j + 1)) = subst (λ (x : ℕ). count x g ≤ count (j + 1) g + (n - (j + 1))) s (count_split (j + 1) (n - (j + 1)) g) in
+    omega (arith, c, met_no_more g j k e h, hall.thirds)
+
 has_after : (j m i : ℕ) → has (m / 2 ^ j) i ≡ has m (j + i)
 unfolding has
 has_after j m i = ap (λ (x : ℕ). eqb (x % 2) 1) (shr-shr m j i)
 
-pub missed : (n held to m : ℕ) (share d : ℕ → ℕ) (w j k : ℕ) → Hall n → m < 2 ^ largest → is_choice n held m ≡ true → j ≤ n → k ≡ count j (met_at n held share d to m w)
+-- too few held ones are left
+pub few_left : (n held to m : ℕ) (share d : ℕ → ℕ) (w j k : ℕ) → Hall n → m < 2 ^ largest → is_choice n held m ≡ true → j ≤ n → k ≡ count j (met_at n held share d to m w)
     → k + count largest (has (held / 2 ^ j)) < quorum n → count n (met_at n held share d to m w) < quorum n
-missed n held to m share d w j k hall mask c l e far =
+few_left n held to m share d w j k hall mask c l e far =
     let s : j + (n - j) ≡ n = omega arith in
     let all : count n (met_at n held share d to m w) ≡ count j (met_at n held share d to m w) + count (n - j) (λ i. met_at n held share d to m w (j + i)) =
     subst (λ (x : ℕ). count x (met_at n held share d to m w) ≡ count j (met_at n held share d to m w) + count (n - j) (λ i. met_at n held share d to m w (j + i))) s (count_parts j (n - j) (met_at n held share d to m w)) in

@@ -30,7 +30,7 @@ tried_by n held from to k a m xs ys l small e fits wide low nth usable h = recor
 module _ (n held from to k m : ℕ) (share : ℕ → ℕ) (ys : List ℕ) (t : Tried n held from to k m share ys) (none : first_of k (λ k. tried n held share to (nth_choice from k)) ≡ None) where
   -- with fewer than 2f + 1 shares met the search goes on
   pub goes_on : count n (met_at n held share (at ys) to m (length ys)) < quorum n → first_of (k + 1) (λ k. tried n held share to (nth_choice from k)) ≡ None
-  goes_on few = first_none k (λ k. tried n held share to (nth_choice from k)) none (subst (λ (x : ℕ). tried n held share to x ≡ None) t.nth (turn_failed n held share (at ys) to m (length ys) t.wide t.small t.mask t.usable t.numbers few))
+  goes_on few = first_none k (λ k. tried n held share to (nth_choice from k)) none (subst (λ (x : ℕ). tried n held share to x ≡ None) t.nth (turn_failed n held share (at ys) to m (length ys) t.wide (subst (λ (x : ℕ). Newtons x (has m) share (at ys)) (sym t.wide) t.numbers) few))
 
   -- and it ends where share j is the last of so many
   pub ends_at : (j met : ℕ) → k < 2 ^ (to - from) → j < n → met ≡ count j (met_at n held share (at ys) to m (length ys)) → met_at n held share (at ys) to m (length ys) j ≡ true → met + 1 ≡ quorum n

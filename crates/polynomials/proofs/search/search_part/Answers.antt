@@ -7,7 +7,7 @@ use Rattle.basis.specs.Counts.{has, count}
 use Rattle.basis.specs.Halls.{largest, quorum}
 use Rattle.polynomials.specs.Polynomials.{at}
 use Rattle.polynomials.specs.Shares.{first_of, tried, nth_choice, meets_by}
-use Rattle.polynomials.proofs.Choosing.{first_none, met_at, met_more, met_no_more, missed, turn_skipped}
+use Rattle.polynomials.proofs.Choosing.{first_none, few_left, met_at, met_more, met_no_more, turn_skipped}
 use Rattle.polynomials.proofs.Trying.{Tried, tried_by, goes_on, ends_at}
 use Rattle.polynomials.proofs.search.search_part.Goals as goal
 use Rattle.polynomials.proofs.search.search_part.Goals.{then-meets_share+else-is_enough, else-meets_share+else-is_hopeless}
@@ -66,7 +66,7 @@ choices-preserved-then-is_hopeless c =
     let within : c.loop-j.j < c.args.n = omega (arith, length-take c.from-in-choices.result c.args.shares.now) in
     let far : c.loop-j.met + count largest (has (c.args.held / 2 ^ (c.loop-j.j + 1))) < quorum c.args.n = ltb-true _ _ (sym c.is_hopeless.ensures ∙ c.if-is_hopeless.true) in
     let few =
-    missed c.args.n c.args.held c.args.part.to m (at c.args.shares.now) (at ys) (length ys) (c.loop-j.j + 1) c.loop-j.met c.requires.0 (lt_of_lt_of_le t.mask (pow_mono c.args.part.small)) t.usable (omega (arith, within))
+    few_left c.args.n c.args.held c.args.part.to m (at c.args.shares.now) (at ys) (length ys) (c.loop-j.j + 1) c.loop-j.met c.requires.0 (lt_of_lt_of_le t.mask (pow_mono c.args.part.small)) t.usable (omega (arith, within))
     (met_no_more g c.loop-j.j c.loop-j.met c.loop-j.invariant.1 (sym here ∙ c.if-meets_share.false)) far in
     (c.loop-j.invariant.0, goes_on c.args.n c.args.held c.args.part.from c.args.part.to c.choices.k m (at c.args.shares.now) ys t c.choices.invariant.1 few)
 
