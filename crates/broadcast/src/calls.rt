@@ -1,16 +1,19 @@
-// What hearing a sheet comes to, and the checks that calls share.
+// The calls of a replica, as far as sheets go: what each answers and leaves.
 ghost use Rattle.std.specs.Prelude.{◌≡◌, ℕ, ◌*◌, ◌<◌, ◌≤◌, true, not, ◌&&◌, length, ◌==◌, nat_lt};
 ghost use Rattle.basis.specs.Refusals.{told};
 ghost use Rattle.std.specs.Option.{option_map};
 ghost use Rattle.sheets.specs.Holds.{holds};
 ghost use Rattle.slots.specs.Places.{all_places};
 ghost use Rattle.slots.specs.Steps.{noted, settled};
-ghost use Rattle.broadcast.specs.Calls.{fits_hall, may_send, compared, sheet_answer, if_new};
+ghost use Rattle.broadcast.specs.Calls.{fits_hall, may_send, compared, sheet_answer, if_new, Running, hear_answer, hear_after, of_hall, large_enough, look_after};
+ghost use Rattle.messages.specs.Reading.{syntax};
 
 use basis::heard::Heard;
 use basis::member::Member;
 use basis::refusal::{Reason, Refusal};
-use messages::message::Phase;
+use messages::message::{Message, Phase};
+use messages::read::read;
+use messages::tags::{Format, VoteTags};
 use sheets::rows::put_sheet;
 use sheets::sheet::Sheet;
 use slots::places::{place_of, places_in};
@@ -106,4 +109,63 @@ pub fn is_another(member: Member, sender: u8) -> bool
     ensures { result ≡ (nat_lt sender member.n && not (sender == member.own)) }
 {
     (sender < member.n) & (sender != member.own)
+}
+
+// Hears a packet from a sender: the checks in their order, then the message is recorded and its slot's steps are taken.
+pub fn hear<S: Sheet>(
+    records: &mut [Slot],
+    rounds: usize,
+    places: &mut [S::Row],
+    member: Member,
+    tags: VoteTags,
+    shares: bool,
+    sender: u8,
+    packet: &[u8],
+) -> Result<Heard, Refusal>
+    ensures answer { told result ≡ hear_answer S.Sheet.rows (syntax S.Sheet.LEN S.Sheet.lawful (record { n = member.n; tags = tags; shares = shares })) member.own sender packet.now (record { life = Running; slots = (record { records = records.entry.now; places = places.old }); rounds = rounds }) }
+    ensures left { record { records = records.exit.now; places = places.new } ≡ (hear_after S.Sheet.rows (syntax S.Sheet.LEN S.Sheet.lawful (record { n = member.n; tags = tags; shares = shares })) member.own sender packet.now (record { life = Running; slots = (record { records = records.entry.now; places = places.old }); rounds = rounds })).slots }
+{
+    if !are_large_enough(member.n, records.len(), rounds, places.len()) {
+        return Err(Reason::TablesTooSmall.at(0));
+    }
+    if !is_another(member, sender) {
+        return Err(Reason::SenderNotAnother.at(0));
+    }
+    let format = Format {
+        n: member.n,
+        tags,
+        shares,
+    };
+    match read::<S>(packet, format)? {
+        Message::Sheet { phase, slot, sheet } => take_sheet::<S>(
+            records,
+            places,
+            member,
+            sender,
+            phase,
+            slot,
+            sheet.bytes,
+        ),
+        _ => Err(Reason::TagNotUsed.at(0)),
+    }
+}
+
+// Takes the steps of every slot, the lowest first.
+#[tactic(auto, using(crate::proofs::Heard::looked_more), unfolding(crate::specs::Calls::looked))]
+pub fn look<S: Sheet>(
+    records: &mut [Slot],
+    rounds: usize,
+    places: &mut [S::Row],
+    member: Member,
+) -> Result<(), Refusal>
+    ensures answer { told result ≡ large_enough (of_hall member.n S.Sheet.LEN S.Sheet.lawful) (record { life = Running; slots = (record { records = records.entry.now; places = places.old }); rounds = rounds }) }
+    ensures left { record { records = records.exit.now; places = places.new } ≡ (look_after S.Sheet.rows (of_hall member.n S.Sheet.LEN S.Sheet.lawful) member.own (record { life = Running; slots = (record { records = records.entry.now; places = places.old }); rounds = rounds })).slots }
+{
+    if !are_large_enough(member.n, records.len(), rounds, places.len()) {
+        return Err(Reason::TablesTooSmall.at(0));
+    }
+    for slot in 0..member.n {
+        settle::<S>(records, places, member.n, member.own, slot);
+    }
+    Ok(())
 }

@@ -1,15 +1,19 @@
 // What a replica has said of sheets, in the order of positions.
 ghost use Rattle.std.specs.Prelude.{◌≡◌, ℕ, ◌+◌, ◌*◌, ◌<◌, ◌≤◌, length};
 ghost use Rattle.std.specs.Option.{option_map};
+ghost use Rattle.basis.specs.Refusals.{told};
 ghost use Rattle.messages.specs.Writing.{on_sheet};
 ghost use Rattle.slots.specs.Places.{all_places};
-ghost use Rattle.broadcast.specs.Saying.{said_message_lem, at_or_after, earliest, next_said};
+ghost use Rattle.broadcast.specs.Calls.{Running};
+ghost use Rattle.broadcast.specs.Saying.{said_message_lem, at_or_after, earliest, next_said, say_answer, say_output};
 
-use crate::calls::may_come;
+use crate::calls::{are_large_enough, may_come};
 use basis::member::Member;
+use basis::refusal::{Reason, Refusal};
 use messages::message::{Message, Phase};
 use sheets::sheet::Sheet;
 use slots::places::sheet_from;
+use slots::slot::Slot;
 
 // How many positions a tag has, and how many a slot under it.
 pub const OF_TAG: u32 = 0x1_0000;
@@ -79,4 +83,27 @@ impl<S: Sheet> Recorded<'_, S> {
             .or_else(echo)
             .or_else(ready)
     }
+}
+
+// Writes the first message said at or after a position and answers its position, or answers that none is left.
+pub fn say<S: Sheet>(
+    records: &[Slot],
+    rounds: usize,
+    places: &[S::Row],
+    member: Member,
+    from: u32,
+    out: &mut [u8],
+) -> Result<Option<u32>, Refusal>
+    ensures answer { told result ≡ say_answer S.Sheet.rows member.n member.own from (record { life = Running; slots = (record { records = records.entry.now; places = places.now }); rounds = rounds }) out.old }
+    ensures output { out.new ≡ say_output S.Sheet.rows member.n member.own from (record { life = Running; slots = (record { records = records.entry.now; places = places.now }); rounds = rounds }) out.old }
+{
+    if !are_large_enough(member.n, records.len(), rounds, places.len()) {
+        return Err(Reason::TablesTooSmall.at(0));
+    }
+    let recorded = Recorded::<S> { member, places };
+    let Some(message) = recorded.next_message(from) else {
+        return Ok(None);
+    };
+    message.write(out)?;
+    Ok(Some(message.position()))
 }

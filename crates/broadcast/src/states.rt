@@ -10,15 +10,14 @@ ghost use Rattle.broadcast.specs.Saying.{say_answer, say_output};
 ghost use Rattle.slots.specs.Steps.{delivered_sheet_lem};
 ghost use Rattle.broadcast.specs.Opening.{fresh_told, open_answer, open_after, offer_told, offer_answer};
 
-use crate::calls::{are_large_enough, is_another, take_sheet};
+use crate::calls::{are_large_enough, hear, look};
 use crate::open::clear_to;
-use crate::say::Recorded;
+use crate::say::say;
 use basis::heard::Heard;
 use basis::member::Member;
 use basis::refusal::{Reason, Refusal};
-use messages::message::{Message, Phase};
-use messages::read::read;
-use messages::tags::{Format, VoteTags};
+use messages::message::Phase;
+use messages::tags::VoteTags;
 use sheets::rows::put_sheet;
 use sheets::sheet::Sheet;
 use slots::delivered::delivered_sheet;
@@ -100,30 +99,16 @@ impl Running {
         ensures answer { told result ≡ hear_answer S.Sheet.rows (syntax S.Sheet.LEN S.Sheet.lawful (record { n = self.now.member.n; tags = tags; shares = shares })) self.now.member.own sender packet.now (record { life = HasOffered; slots = (record { records = records.entry.now; places = places.old }); rounds = rounds }) }
         ensures left { record { records = records.exit.now; places = places.new } ≡ (hear_after S.Sheet.rows (syntax S.Sheet.LEN S.Sheet.lawful (record { n = self.now.member.n; tags = tags; shares = shares })) self.now.member.own sender packet.now (record { life = HasOffered; slots = (record { records = records.entry.now; places = places.old }); rounds = rounds })).slots }
     {
-        let member = self.member;
-        if !are_large_enough(member.n, records.len(), rounds, places.len()) {
-            return Err(Reason::TablesTooSmall.at(0));
-        }
-        if !is_another(member, sender) {
-            return Err(Reason::SenderNotAnother.at(0));
-        }
-        let format = Format {
-            n: member.n,
+        hear::<S>(
+            records,
+            rounds,
+            places,
+            self.member,
             tags,
             shares,
-        };
-        match read::<S>(packet, format)? {
-            Message::Sheet { phase, slot, sheet } => take_sheet::<S>(
-                records,
-                places,
-                member,
-                sender,
-                phase,
-                slot,
-                sheet.bytes,
-            ),
-            _ => Err(Reason::TagNotUsed.at(0)),
-        }
+            sender,
+            packet,
+        )
     }
 
     // Takes the steps of every slot, the lowest first. A slot's steps end: after three none applies.
@@ -137,14 +122,7 @@ impl Running {
         ensures left { record { records = records.exit.now; places = places.new } ≡ (look_after S.Sheet.rows (of_hall self.now.member.n S.Sheet.LEN S.Sheet.lawful) self.now.member.own (record { life = HasOffered; slots = (record { records = records.entry.now; places = places.old }); rounds = rounds })).slots }
         ensures ends { StepsEnd S.Sheet.rows }
     {
-        let Member { n, own } = self.member;
-        if !are_large_enough(n, records.len(), rounds, places.len()) {
-            return Err(Reason::TablesTooSmall.at(0));
-        }
-        for slot in 0..n {
-            settle::<S>(records, places, n, own, slot);
-        }
-        Ok(())
+        look::<S>(records, rounds, places, self.member)
     }
 
     // Writes the first message said at or after a position and answers its position, or answers that none is left.
@@ -159,16 +137,7 @@ impl Running {
         ensures answer { told result ≡ say_answer S.Sheet.rows self.now.member.n self.now.member.own from (record { life = HasOffered; slots = (record { records = records.entry.now; places = places.now }); rounds = rounds }) out.old }
         ensures output { out.new ≡ say_output S.Sheet.rows self.now.member.n self.now.member.own from (record { life = HasOffered; slots = (record { records = records.entry.now; places = places.now }); rounds = rounds }) out.old }
     {
-        let member = self.member;
-        if !are_large_enough(member.n, records.len(), rounds, places.len()) {
-            return Err(Reason::TablesTooSmall.at(0));
-        }
-        let recorded = Recorded::<S> { member, places };
-        let Some(message) = recorded.next_message(from) else {
-            return Ok(None);
-        };
-        message.write(out)?;
-        Ok(Some(message.position()))
+        say::<S>(records, rounds, places, self.member, from, out)
     }
 
     // The sheet that is delivered for a slot, if any. In every run honest replicas deliver equal sheets for a slot, an

@@ -6,6 +6,8 @@ mod four;
 #[cfg(test)]
 mod hearing;
 #[cfg(test)]
+mod members;
+#[cfg(test)]
 mod opening;
 #[cfg(test)]
 mod saying;

@@ -15,7 +15,7 @@ module _ {R : Type 0} (rows : Rows R) (n : ℕ) (ps : List R) (ph : Phase) (k le
       ap₂ (λ a b. or_else a (cond b (Some m) None)) (nobody m (λ j l h. not_one j l (omega arith))) (not_one m (omega arith) (omega arith))
 
   -- nobody before, and this one: it is the one, however many come after
-  found : (i m : ℕ) → i < m → lowest_backed rows n ps ph k least i ≡ None → backed rows n ps ph k least i ≡ true → lowest_backed rows n ps ph k least m ≡ Some i
+  pub found : (i m : ℕ) → i < m → lowest_backed rows n ps ph k least i ≡ None → backed rows n ps ph k least i ≡ true → lowest_backed rows n ps ph k least m ≡ Some i
   unfolding lowest_backed
   found i zero lt none this = absurd (omega arith)
   found i (suc m) lt none this = ⊎_elim

@@ -1,9 +1,10 @@
-// What is delivered.
-ghost use Rattle.std.specs.Prelude.{◌≡◌};
+// What is delivered, and how much.
+ghost use Rattle.std.specs.Prelude.{◌≡◌, ◌<◌, ◌≤◌, length, is_some, slice_index_or};
 ghost use Rattle.std.specs.Option.{option_map};
+ghost use Rattle.basis.specs.Counts.{count};
 ghost use Rattle.messages.specs.declared.message.Phase.TheVariants.{Ready};
 ghost use Rattle.slots.specs.Places.{sheet_of};
-ghost use Rattle.slots.specs.Steps.{delivered_sheet_lem};
+ghost use Rattle.slots.specs.Steps.{cleared, delivered_sheet_lem};
 
 use crate::places::place_of;
 use crate::slot::Slot;
@@ -30,4 +31,23 @@ pub fn delivered_sheet<S: Sheet>(
     ensures { option_map S.Sheet.bytes result ≡ delivered_sheet_lem S.Sheet.rows n own slot (record { records = records.entry.now; places = places.now }) }
 {
     sheet_of_slot(*records.get(usize::from(slot))?, places, n, slot)
+}
+
+// Whether a slot is delivered.
+pub fn is_delivered(records: &[Slot], slot: u8) -> bool
+    requires { slot < length records.now }
+    ensures { result ≡ is_some (slice_index_or records.now slot cleared).delivered }
+{
+    records[usize::from(slot)].delivered.is_some()
+}
+
+// How many of the n slots are delivered.
+pub fn count_deliveries(records: &[Slot], n: u8) -> u32
+    requires { n ≤ length records.now }
+    ensures { result ≡ count n (λ k. is_some (slice_index_or records.now k cleared).delivered) }
+{
+    records[..usize::from(n)]
+        .iter()
+        .filter(|record| record.delivered.is_some())
+        .count() as u32
 }

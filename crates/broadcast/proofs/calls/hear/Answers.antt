@@ -3,12 +3,12 @@ use Rattle.std.proofs.Common.{Ok, sym, ap, ◌∙◌, arith}
 use Rattle.std.proofs.lemmas.Bool.{and_parts, ltb-true, leb-true}
 use Rattle.messages.specs.Reading.{syntax, plain, part_placed}
 use Rattle.broadcast.proofs.Heard.{sheet_read}
-use Rattle.broadcast.proofs.states.Running.hear.Goals as goal
+use Rattle.broadcast.proofs.calls.hear.Goals as goal
 
 pub take_sheet-requires : goal.take_sheet-requires
 take_sheet-requires g c =
     let m = g.S.Sheet in
-    let y = syntax m.LEN m.lawful (record { n = c.args.self.now.member.n; tags = c.args.tags; shares = c.args.shares }) in
+    let y = syntax m.LEN m.lawful (record { n = c.args.member.n; tags = c.args.tags; shares = c.args.shares }) in
     let large = and_parts _ _ (sym c.if-not-are_large_enough.ensures) in
     let more = and_parts _ _ large.1 in
     let other = and_parts _ _ (sym c.if-not-is_another.ensures) in
