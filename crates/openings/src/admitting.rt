@@ -27,7 +27,7 @@ pub fn admits_one(round: &PhasedRound, n: u8) -> bool
     has_proposed_one(round) | has_honest(size_in(round.first.one, n), n)
 }
 
-// The second votes for admitted bits. Not `count_votes` of a later round, which admits otherwise and counts votes for both.
+// The second votes for admitted bits. Not `count_in` of a later round, which admits otherwise and counts votes for both.
 #[tactic(auto, using(phases::proofs::Masks::where_has), unfolding(crate::specs::Openings::admits, phases::specs::Steps::admitted))]
 pub fn supporters(round: &PhasedRound, n: u8) -> Counted
     ensures zero { (j : ℕ) → has result.zero j ≡ supports n (meaning_of round.now) 1 j }

@@ -15,8 +15,8 @@ use phases::vote_phase::VotePhase;
 pub fn vote_for_one(round: &mut PhasedRound, member: Member)
     ensures { meaning_of round.new ≡ once_second member.own 2 (meaning_of round.old) }
 {
-    if !round.has_voted(VotePhase::Second, member.own) {
-        round.record_vote(VotePhase::Second, BitSet::One, member.own);
+    if !round.has_voted_in(VotePhase::Second, member.own) {
+        round.record_in(VotePhase::Second, BitSet::One, member.own);
     }
 }
 
@@ -25,7 +25,7 @@ pub fn propose(round: &mut PhasedRound, member: Member, bit: bool)
     ensures { meaning_of round.new ≡ proposed member.own (bit_set bit) (meaning_of round.old) }
 {
     round.entered = Some(bit);
-    round.record_vote(VotePhase::First, BitSet::from(bit), member.own);
+    round.record_in(VotePhase::First, BitSet::from(bit), member.own);
     if bit {
         vote_for_one(round, member);
     }
@@ -35,7 +35,7 @@ pub fn propose(round: &mut PhasedRound, member: Member, bit: bool)
 pub fn may_propose_again(round: &PhasedRound, member: Member) -> bool
     ensures { result ≡ (again member.own).applies (meaning_of round.now) }
 {
-    round.is_entered() & !round.has_vote(VotePhase::First, BitSet::One, member.own)
+    round.is_entered() & !round.has_vote_in(VotePhase::First, BitSet::One, member.own)
 }
 
 // Proposes 1 again, for a slot that was delivered after proposing: says the first vote 1 and no more.
@@ -43,6 +43,6 @@ pub fn propose_again(round: &mut PhasedRound, member: Member)
     ensures { meaning_of round.new ≡ taking (again member.own) (meaning_of round.old) }
 {
     if may_propose_again(round, member) {
-        round.record_vote(VotePhase::First, BitSet::One, member.own);
+        round.record_in(VotePhase::First, BitSet::One, member.own);
     }
 }

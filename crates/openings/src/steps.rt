@@ -20,7 +20,7 @@ pub fn may_join_one(round: &PhasedRound, member: Member) -> bool
 {
     round.is_entered()
         && ((!contains(round.first.one, member.own)
-            || !round.has_voted(VotePhase::Second, member.own))
+            || !round.has_voted_in(VotePhase::Second, member.own))
             && has_honest(size_in(round.first.one, member.n), member.n))
 }
 
@@ -29,7 +29,7 @@ pub fn join_for_one(round: &mut PhasedRound, member: Member)
     ensures { meaning_of round.new ≡ taking (join_one member.n member.own) (meaning_of round.old) }
 {
     if may_join_one(round, member) {
-        round.record_vote(VotePhase::First, BitSet::One, member.own);
+        round.record_in(VotePhase::First, BitSet::One, member.own);
         vote_for_one(round, member);
     }
 }
@@ -40,7 +40,7 @@ pub fn may_admit(round: &PhasedRound, member: Member, bit: bool) -> bool
     ensures { result ≡ (admit member.n member.own (bit_set bit)).applies (meaning_of round.now) }
 {
     round.is_entered()
-        && (!round.has_voted(VotePhase::Second, member.own) && round.admits(member.n, bit))
+        && (!round.has_voted_in(VotePhase::Second, member.own) && round.admits(member.n, bit))
 }
 
 // Says the second vote for a bit that is admitted by 2f + 1.
@@ -48,7 +48,7 @@ pub fn admit_bit(round: &mut PhasedRound, member: Member, bit: bool)
     ensures { meaning_of round.new ≡ taking (admit member.n member.own (bit_set bit)) (meaning_of round.old) }
 {
     if may_admit(round, member, bit) {
-        round.record_vote(VotePhase::Second, BitSet::from(bit), member.own);
+        round.record_in(VotePhase::Second, BitSet::from(bit), member.own);
     }
 }
 

@@ -45,7 +45,7 @@ impl PhasedRound {
     }
 
     // The votes of a phase that lie within the set of admitted bits.
-    pub fn count_votes(&self, n: u8, phase: VotePhase) -> Counted
+    pub fn count_in(&self, n: u8, phase: VotePhase) -> Counted
         ensures zero { (j : ℕ) → has result.zero j ≡ counted n (meaning_of self.now) (tag_of phase) 1 j }
         ensures one { (j : ℕ) → has result.one j ≡ counted n (meaning_of self.now) (tag_of phase) 2 j }
     {
@@ -89,7 +89,7 @@ impl PhasedRound {
     fn has_enough_admitted(&self, n: u8, phase: VotePhase) -> bool
         ensures { result ≡ enough n (meaning_of self.now) (tag_of phase) }
     {
-        self.count_votes(n, phase).is_enough(n)
+        self.count_in(n, phase).is_enough(n)
     }
 
     // Whether 2f + 1 have voted in a phase, for whatever bits.
@@ -102,7 +102,7 @@ impl PhasedRound {
     }
 
     // The same; where fewer have voted, the admitted bits are not looked at.
-    pub fn has_enough(&self, n: u8, phase: VotePhase) -> bool
+    pub fn has_enough_in(&self, n: u8, phase: VotePhase) -> bool
         ensures { result ≡ enough n (meaning_of self.now) (tag_of phase) }
     {
         self.has_quorum(n, phase) && self.has_enough_admitted(n, phase)
@@ -113,7 +113,7 @@ impl PhasedRound {
     pub fn union_in(&self, n: u8, phase: VotePhase) -> Option<BitSet>
         ensures { set_if_any result ≡ union n (meaning_of self.now) (tag_of phase) }
     {
-        self.count_votes(n, phase).union_of(n)
+        self.count_in(n, phase).union_of(n)
     }
 
     // Whether there is no verdict.

@@ -35,7 +35,7 @@ impl PhasedRound {
     fn is_contradicted(&self, phase: VotePhase, sender: u8) -> bool
         ensures { result ≡ contradicts (record { tag = tag_of phase; set = 0; sender = sender }) (meaning_of self.now) }
     {
-        (phase != VotePhase::First) & self.has_voted(phase, sender)
+        (phase != VotePhase::First) & self.has_voted_in(phase, sender)
     }
 
     // Hears a vote: it is recorded where it is new. A vote under another tag than a phase's is new and leaves no trace.
@@ -48,13 +48,13 @@ impl PhasedRound {
         let Ok(phase) = VotePhase::try_from(vote.tag) else {
             return Ok(Heard::New);
         };
-        if self.has_vote(phase, vote.bits, vote.sender) {
+        if self.has_vote_in(phase, vote.bits, vote.sender) {
             return Ok(Heard::Known);
         }
         if self.is_contradicted(phase, vote.sender) {
             return Err(Reason::Contradiction);
         }
-        self.record_vote(phase, vote.bits, vote.sender);
+        self.record_in(phase, vote.bits, vote.sender);
         Ok(Heard::New)
     }
 
@@ -64,7 +64,7 @@ impl PhasedRound {
     {
         if !self.is_entered() {
             self.entered = Some(bit);
-            self.record_vote(VotePhase::First, BitSet::from(bit), member.own);
+            self.record_in(VotePhase::First, BitSet::from(bit), member.own);
         }
     }
 }

@@ -9,6 +9,7 @@ pub mod phased;
 pub mod recording;
 pub mod round;
 pub mod steps;
+pub mod tagged;
 pub mod through;
 pub mod vote_phase;
 pub mod votes;

@@ -36,9 +36,9 @@ pub fn take_phases<const THIRD: bool>(round: &mut PhasedRound, member: Member)
     round.vote_second(member);
     if THIRD {
         round.vote_third(member);
-        round.take_verdict(member, VotePhase::Third);
+        round.take_verdict_in(member, VotePhase::Third);
     } else {
-        round.take_verdict(member, VotePhase::Second);
+        round.take_verdict_in(member, VotePhase::Second);
     }
 }
 

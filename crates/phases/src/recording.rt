@@ -39,7 +39,7 @@ impl PhasedRound {
 
     // Records a vote of a phase.
     #[tactic(auto, using(crate::proofs::Masks::added_first, crate::proofs::Masks::added_second, crate::proofs::Masks::added_third))]
-    pub fn record_vote(&mut self, phase: VotePhase, bits: BitSet, sender: u8)
+    pub fn record_in(&mut self, phase: VotePhase, bits: BitSet, sender: u8)
         requires { sender < 16 }
         ensures { meaning_of self.new ≡ says (tag_of phase) (bits_number bits) sender (meaning_of self.old) }
     {
@@ -51,7 +51,7 @@ impl PhasedRound {
     }
 
     // Whether a vote is recorded.
-    pub fn has_vote(&self, phase: VotePhase, bits: BitSet, sender: u8) -> bool
+    pub fn has_vote_in(&self, phase: VotePhase, bits: BitSet, sender: u8) -> bool
         ensures { result ≡ (meaning_of self.now).votes (tag_of phase) (bits_number bits) sender }
     {
         contains(self.votes_in(phase).cast_for(bits), sender)
@@ -59,7 +59,7 @@ impl PhasedRound {
 
     // Whether some vote of a sender is recorded in a phase.
     #[tactic(auto, using(basis::proofs::Counts::has_or))]
-    pub fn has_voted(&self, phase: VotePhase, sender: u8) -> bool
+    pub fn has_voted_in(&self, phase: VotePhase, sender: u8) -> bool
         ensures { result ≡ voted (tag_of phase) sender (meaning_of self.now) }
     {
         let cast = self.votes_in(phase);

@@ -27,7 +27,7 @@ impl PhasedRound {
         ensures { meaning_of self.new ≡ taking (join member.n member.own (bit_set bit)) (meaning_of self.old) }
     {
         if self.may_join(member, bit) {
-            self.record_vote(VotePhase::First, BitSet::from(bit), member.own);
+            self.record_in(VotePhase::First, BitSet::from(bit), member.own);
         }
     }
 
@@ -36,7 +36,7 @@ impl PhasedRound {
         ensures { result ≡ (second member.n member.own).applies (meaning_of self.now) }
     {
         self.is_entered()
-            && (!self.has_voted(VotePhase::Second, member.own)
+            && (!self.has_voted_in(VotePhase::Second, member.own)
                 && (self.admits(member.n, false) || self.admits(member.n, true)))
     }
 
@@ -46,7 +46,7 @@ impl PhasedRound {
     {
         if self.may_vote_second(member) {
             let bit = !self.admits(member.n, false);
-            self.record_vote(VotePhase::Second, BitSet::from(bit), member.own);
+            self.record_in(VotePhase::Second, BitSet::from(bit), member.own);
         }
     }
 
@@ -55,8 +55,8 @@ impl PhasedRound {
         ensures { result ≡ (third member.n member.own).applies (meaning_of self.now) }
     {
         self.is_entered()
-            && (!self.has_voted(VotePhase::Third, member.own)
-                && self.has_enough(member.n, VotePhase::Second))
+            && (!self.has_voted_in(VotePhase::Third, member.own)
+                && self.has_enough_in(member.n, VotePhase::Second))
     }
 
     // Says the third vote, for the set of those bits.
@@ -66,23 +66,23 @@ impl PhasedRound {
     {
         if self.may_vote_third(member) {
             if let Some(bits) = self.union_in(member.n, VotePhase::Second) {
-                self.record_vote(VotePhase::Third, bits, member.own);
+                self.record_in(VotePhase::Third, bits, member.own);
             }
         }
     }
 
     // Whether 2f + 1 final votes lie within the set of admitted bits and there is no verdict.
-    pub fn may_conclude(&self, member: Member, phase: VotePhase) -> bool
+    pub fn may_conclude_in(&self, member: Member, phase: VotePhase) -> bool
         ensures { result ≡ (conclude member.n member.own (tag_of phase)).applies (meaning_of self.now) }
     {
-        self.is_entered() && (self.lacks_verdict() && self.has_enough(member.n, phase))
+        self.is_entered() && (self.lacks_verdict() && self.has_enough_in(member.n, phase))
     }
 
     // Takes the verdict, the union of those votes.
-    pub fn take_verdict(&mut self, member: Member, phase: VotePhase)
+    pub fn take_verdict_in(&mut self, member: Member, phase: VotePhase)
         ensures { meaning_of self.new ≡ taking (conclude member.n member.own (tag_of phase)) (meaning_of self.old) }
     {
-        if self.may_conclude(member, phase) {
+        if self.may_conclude_in(member, phase) {
             self.verdict = self.union_in(member.n, phase);
         }
     }

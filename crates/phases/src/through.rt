@@ -25,8 +25,8 @@ impl PhasedRound {
         ensures { result ≡ true → Idle (steps_of third member.n member.own) (meaning_of self.now) }
     {
         let first = self.is_joined(member, false) & self.is_joined(member, true);
-        let second = self.has_voted(VotePhase::Second, member.own);
-        let last = !third | self.has_voted(VotePhase::Third, member.own);
+        let second = self.has_voted_in(VotePhase::Second, member.own);
+        let last = !third | self.has_voted_in(VotePhase::Third, member.own);
         first & second & last & !self.lacks_verdict()
     }
 }

@@ -1,7 +1,7 @@
 // The votes of one phase of a round.
 ghost use Rattle.std.specs.Prelude.{◌≡◌, ℕ, ◌<◌};
 ghost use Rattle.messages.specs.Tags.{bits_number};
-ghost use Rattle.phases.specs.Records.{for_set, with_vote};
+ghost use Rattle.phases.specs.Records.{no_votes, for_set, with_vote};
 
 use basis::replicas::{ReplicaSet, with};
 use messages::message::BitSet;
@@ -15,6 +15,13 @@ pub struct Votes {
 }
 
 impl Votes {
+    // No votes.
+    pub fn none() -> Votes
+        ensures { result ≡ no_votes }
+    {
+        Votes::default()
+    }
+
     // Who voted for exactly this set.
     pub fn cast_for(self, bits: BitSet) -> ReplicaSet
         ensures { result ≡ for_set self (bits_number bits) }

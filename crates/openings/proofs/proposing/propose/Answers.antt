@@ -12,5 +12,5 @@ returns-then-bit c =
     let own = c.args.member.own in
     let x = bit_set c.args.bit in
     let m = meaning_of c.args.round.now in
-    c.vote_for_one.ensures ∙ ap (once_second own 2) (c.record_vote.ensures ∙ ap (λ (v : ℕ). says 32 v own (begun x m)) c.from.ensures)
+    c.vote_for_one.ensures ∙ ap (once_second own 2) (c.record_in.ensures ∙ ap (λ (v : ℕ). says 32 v own (begun x m)) c.from.ensures)
     ∙ sym (cond-true (eqb x 2) _ _ (ap (λ (b : Bool). eqb (bit_set b) 2) c.if-bit.true))

@@ -10,4 +10,4 @@ returns-then-may_join_one c =
     let n = c.args.member.n in
     let own = c.args.member.own in
     let m = meaning_of c.args.round.now in
-    c.vote_for_one.ensures ∙ ap (once_second own 2) c.record_vote.ensures ∙ sym (cond-true ((join_one n own).applies m) _ _ (sym c.if-may_join_one.ensures))
+    c.vote_for_one.ensures ∙ ap (once_second own 2) c.record_in.ensures ∙ sym (cond-true ((join_one n own).applies m) _ _ (sym c.if-may_join_one.ensures))

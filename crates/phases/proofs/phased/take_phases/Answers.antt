@@ -16,7 +16,7 @@ returns-then-this-ne0 g c =
     let own = c.args.member.own in
     let m = meaning_of c.args.round.now in
     let set : THIRD-type (number g.row.THIRD) ≡ true = search rules in
-    let done : meaning_of c.take_verdict.new.self ≡ passed (steps_of true n own) m = c.take_verdict.ensures ∙ ap (taking (conclude n own 34)) (c.vote_third.ensures ∙ ap (taking (third n own)) (c.vote_second.ensures ∙ ap (taking (second n own)) (c.join_first-2.ensures ∙ ap (taking (join n own 2)) c.join_first.ensures))) in
+    let done : meaning_of c.take_verdict_in.new.self ≡ passed (steps_of true n own) m = c.take_verdict_in.ensures ∙ ap (taking (conclude n own 34)) (c.vote_third.ensures ∙ ap (taking (third n own)) (c.vote_second.ensures ∙ ap (taking (second n own)) (c.join_first-2.ensures ∙ ap (taking (join n own 2)) c.join_first.ensures))) in
     let p = either_pass n own _ m _ (done ∙ ap (λ (b : Bool). passed (steps_of b n own) m) (sym set)) in
     record { left = p.0; none = p.1; ends = either_ends _ }
 
@@ -26,6 +26,6 @@ returns-else-this-ne0 g c =
     let own = c.args.member.own in
     let m = meaning_of c.args.round.now in
     let set : THIRD-type (number g.row.THIRD) ≡ false = search rules in
-    let done : meaning_of c.take_verdict-else-this-ne0.new.self ≡ passed (steps_of false n own) m = c.take_verdict-else-this-ne0.ensures ∙ ap (taking (conclude n own 33)) (c.vote_second.ensures ∙ ap (taking (second n own)) (c.join_first-2.ensures ∙ ap (taking (join n own 2)) c.join_first.ensures)) in
+    let done : meaning_of c.take_verdict_in-else-this-ne0.new.self ≡ passed (steps_of false n own) m = c.take_verdict_in-else-this-ne0.ensures ∙ ap (taking (conclude n own 33)) (c.vote_second.ensures ∙ ap (taking (second n own)) (c.join_first-2.ensures ∙ ap (taking (join n own 2)) c.join_first.ensures)) in
     let p = either_pass n own _ m _ (done ∙ ap (λ (b : Bool). passed (steps_of b n own) m) (sym set)) in
     record { left = p.0; none = p.1; ends = either_ends _ }

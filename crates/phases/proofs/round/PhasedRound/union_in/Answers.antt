@@ -7,4 +7,4 @@ use Rattle.phases.proofs.round.PhasedRound.union_in.Goals as goal
 pub returns : goal.returns
 unfolding union
 returns c = c.union_of.ensures ∙ ap₂ (λ (x y : ℕ). cond (leb 1 x) 1 0 + cond (leb 1 y) 2 0)
-    (count_cong c.args.n _ _ c.count_votes.ensures.zero) (count_cong c.args.n _ _ c.count_votes.ensures.one)
+    (count_cong c.args.n _ _ c.count_in.ensures.zero) (count_cong c.args.n _ _ c.count_in.ensures.one)

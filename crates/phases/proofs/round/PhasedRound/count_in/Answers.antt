@@ -6,7 +6,7 @@ use Rattle.phases.specs.declared.votes.Votes.{Votes}
 use Rattle.phases.specs.Phases.{tag_of}
 use Rattle.phases.specs.Records.{for_set, under}
 use Rattle.phases.proofs.Masks.{chosen}
-use Rattle.phases.proofs.round.PhasedRound.count_votes.Goals as goal
+use Rattle.phases.proofs.round.PhasedRound.count_in.Goals as goal
 
 -- votes for the set x where a is set, and for both where both flags are
 part : ℕ → ℕ → Bool → Bool → Bool → Votes → Bool
