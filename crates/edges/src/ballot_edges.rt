@@ -75,10 +75,16 @@ impl Standing {
         Standing {
             decided: ballot.decided,
             entered: rounds[0].entered,
-            first_zero: ballot.opening.has_vote_in(VotePhase::First, BitSet::Zero, 0),
+            first_zero: ballot
+                .opening
+                .has_vote_in(VotePhase::First, BitSet::Zero, 0),
             first_one: ballot.opening.has_vote_in(VotePhase::First, BitSet::One, 0),
-            second_zero: ballot.opening.has_vote_in(VotePhase::Second, BitSet::Zero, 0),
-            second_one: ballot.opening.has_vote_in(VotePhase::Second, BitSet::One, 0),
+            second_zero: ballot
+                .opening
+                .has_vote_in(VotePhase::Second, BitSet::Zero, 0),
+            second_one: ballot
+                .opening
+                .has_vote_in(VotePhase::Second, BitSet::One, 0),
         }
     }
 }
